@@ -33,7 +33,7 @@ fn plain_drops(mode: usize, a: &[u8], out: &mut [u8]) -> usize {
     let mut loops = [0u8; ROWS];
     let mut paths = [0usize; ROWS];
     let mut up = [0u32; ROWS];
-    once::plain::plain_drops(
+    engines::plain_drops(
         reading::Mode(mode),
         a,
         scratch,
@@ -71,7 +71,7 @@ fn sweep_drops(mode: usize, a: &[u8], out: &mut [u8]) -> usize {
     let mut stores = [0u32; PLACES];
     let mut notes = [0u8; NOTED];
     let mut ends = [0usize; NOTED];
-    once::sweep_drops(
+    engines::sweep_drops(
         reading::Mode(mode),
         a,
         &own,

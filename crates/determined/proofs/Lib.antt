@@ -14,6 +14,7 @@ pub mod Forms
 pub mod Decls
 pub mod Temps
 pub mod Once
+pub mod Engines
 pub mod Phis
 pub mod Calls
 pub mod Bind

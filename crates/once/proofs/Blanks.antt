@@ -3,15 +3,11 @@ use Prim.Native.Nat.{ℕ, zero, suc, _+_, _-_, _≤_, _<_}
 use mathlib.Core.Path.{_≡_, refl, sym, ap, _∙_}
 use mathlib.Core.List.{List, [], _∷_, _++_}
 use native.Mathlib.Omega.{arith}
-use lib.ListN.{length, take, drop, replicate, take-append-drop}
+use lib.ListN.{length, take, drop, replicate, length-replicate, take-append-drop}
 use lib.Seq.{take-take, drop-drop, drop-append-add}
 use Rattle.lines.specs.Inner.Out.{putAt, Wrote}
 use Rattle.lines.proofs.OutLaws.{wrote-length, wrote-part}
 use Rattle.once.specs.Inner.Tables.{Blank}
-
-zeros-length : (n : ℕ) → length (replicate {A = ℕ} n 0) ≡ n
-zeros-length zero = refl
-zeros-length (suc n) = ap suc (zeros-length n)
 
 zeros-less : (n m : ℕ) → n ≤ m → take n (replicate m 0) ≡ replicate {A = ℕ} n 0
 zeros-less zero m h = refl
@@ -26,16 +22,29 @@ past t d n h =
     ∙ drop-drop (n - length t) (length t) d
     ∙ ap (λ (k : ℕ). drop k d) (sym q)
 
--- what was written over zeros is gone
-pub wiped : {n : ℕ} {d d₁ d₂ : List ℕ} (t : List ℕ) → Blank n d → length t ≤ n → d₁ ≡ putAt d 0 t → Wrote d₁ 0 (replicate n 0) d₂ n → d₂ ≡ d
+-- what was written is gone, where it was wiped as far as it reached
+pub wiped-over : {n : ℕ} {d d₁ d₂ : List ℕ} (t : List ℕ) → n ≤ length d → length t ≤ n → d₁ ≡ putAt d 0 t → Wrote d₁ 0 (replicate n 0) d₂ n → Wrote d 0 (replicate n 0) d₂ n
 unfolding putAt
-wiped {n} {d} {d₁} {d₂} t b h e w =
-    let z : 0 + length (replicate {A = ℕ} n 0) ≡ n = omega (arith, zeros-length n) in
+wiped-over {n} {d} {d₁} {d₂} t r h e w =
+    let z : 0 + length (replicate {A = ℕ} n 0) ≡ n = omega (arith, length-replicate {A = ℕ} n 0) in
     let y : 0 + length t ≡ length t = omega arith in
+    record {
+      fits = omega arith;
+      place = w .place;
+      holds = w .holds
+          ∙ ap (λ (k : ℕ). replicate n 0 ++ drop k d₁) z
+          ∙ ap (λ (l : List ℕ). replicate n 0 ++ drop n l) (e ∙ ap (λ (k : ℕ). t ++ drop k d) y)
+          ∙ ap (λ (l : List ℕ). replicate n 0 ++ l) (past t d n h)
+          ∙ ap (λ (k : ℕ). replicate n 0 ++ drop k d) (sym z);
+    }
+
+-- zeros that are wiped stay as they are
+pub blank-kept : {n : ℕ} {d d′ : List ℕ} → Blank n d → Wrote d 0 (replicate n 0) d′ n → d′ ≡ d
+unfolding putAt
+blank-kept {n} {d} {d′} b w =
+    let z : 0 + length (replicate {A = ℕ} n 0) ≡ n = omega (arith, length-replicate {A = ℕ} n 0) in
     w .holds
-    ∙ ap (λ (k : ℕ). replicate n 0 ++ drop k d₁) z
-    ∙ ap (λ (l : List ℕ). replicate n 0 ++ drop n l) (e ∙ ap (λ (k : ℕ). t ++ drop k d) y)
-    ∙ ap (λ (l : List ℕ). replicate n 0 ++ l) (past t d n h)
+    ∙ ap (λ (k : ℕ). replicate n 0 ++ drop k d) z
     ∙ ap (λ (l : List ℕ). l ++ drop n d) (sym (b .zeros))
     ∙ take-append-drop n d
 
@@ -51,4 +60,4 @@ blank-as e b = rw e b
 
 -- scratch that was wiped is blank
 pub blank-wiped : {n : ℕ} {d₀ d : List ℕ} → Wrote d₀ 0 (replicate n 0) d n → Blank n d
-blank-wiped {n} {d₀} {d} w = record { room = omega (arith, wrote-length w, w .fits, zeros-length n); zeros = wrote-part w }
+blank-wiped {n} {d₀} {d} w = record { room = omega (arith, wrote-length w, w .fits, length-replicate {A = ℕ} n 0); zeros = wrote-part w }

@@ -18,6 +18,12 @@ use Rattle.once.specs.Inner.Tables.{anyCall}
 use Rattle.once.specs.Inner.Noted.{CalmIn, Calm}
 use Rattle.once.proofs.CallLaws.{no-call}
 
+-- nothing holds no `(`
+pub calm-nothing : (s : List ℕ) → CalmIn s 0
+unfolding lacks
+calm-nothing [] h = refl
+calm-nothing (x ∷ s) h = absurd (omega arith)
+
 -- ---- lines without `(`
 
 up-lacks : (b : ℕ) (s : List ℕ) → lacks b s ≡ true → length s ≤ upTo b s

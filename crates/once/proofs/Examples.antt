@@ -1,9 +1,7 @@
 -- optimize_once on some listings, as one table. What is expected is the original's answer. Assumes nothing.
 use Prim.Native.Nat.{ℕ}
 use mathlib.Core.Path.{_≡_, refl}
-use mathlib.Core.Bool.{true, false}
 use mathlib.Core.List.{List, [], _∷_, map}
-use Rattle.lines.specs.Ascii.{ascii}
 use Rattle.lines.specs.Lf.{upTo, countOf, prefixed, suffixed, same, holds, cutOn, linesOf, partsOf, unlines}
 use Rattle.lines.specs.Inner.Lf.{lacks, noLf}
 use Rattle.lines.specs.Acts.{act, apply}
@@ -38,7 +36,6 @@ use Rattle.place.specs.Loops.{opensLoop, anyLoop, loopsAfter, loopsGo, insideLo
 use Rattle.place.specs.Inner.Loops.{nestOpen, nestClose, nestLine}
 use Rattle.once.specs.Scratch.{isMember, liveBelow, calledBelow, scratchAt}
 use Rattle.once.specs.Once.{spotsOf, spots, linesIn, nextUse, dropped, readCount, laterRead, forwards, onceAct, onceGo, onceActs, optimizeOnce}
-use Rattle.once.specs.Engines.{tableAbove, swept, sweepDrops, sweepEngine}
 use Rattle.reading.specs.Reading.{plain}
 
 -- the lines of a listing, and what they become
@@ -71,32 +68,3 @@ rows =
 pub examples : map (λ (r : Row). optimizeOnce plain (r .lines)) rows ≡ map (λ (r : Row). r .result) rows
 unfolding rows upTo countOf prefixed suffixed same holds cutOn linesOf partsOf unlines lacks noLf act apply isWhite seqLen scan utf8Of whiteChar whiteHead whiteTail lead fromOf endWhite toOf trimOf numbered readNumber zeros decimalBy decimal numberAfter regOf phiOf isTemp isIdent allRegs isDecl storeIn parseOf textOf runsGo runs countBy upBy walkRuns runHits hitsGo hits oneHit regHit afterNew asTarget glueLeft glueRight glued replacedAt replaceReg quoteLen patternLen commentLen lastOf tokenOf tokenAt lexGo stripLexical tailOf pushed grown cleanStep isHeader headed regionsGo regions regionNext untilHeader region regionAt upHeader braceOf push count top stackAfter nextAfter blocksGo blocks cleaned mayAt depthAt depthAfter ownLine ownGo own startsAfter startsByLast startsAbove startsGo isAssign leftOf rightOf assignOf lineReads lineStores lineUses usedIn commas declAct keepNames actOf actsGo pruneDeclsActs pruneDecls deep fix strip stripComments noComment spaceStart spaceEnd spaceTrim wrapped shapeOf openings closings elements pureBy judge purityIn purityCut pathCloses pathAfter pathNext pathsGo blockPaths tops opensLoop anyLoop loopsAfter loopsGo insideLoop nestOpen nestClose nestLine isMember liveBelow calledBelow scratchAt spotsOf spots linesIn nextUse dropped readCount laterRead forwards onceAct onceGo onceActs optimizeOnce
 examples = refl
-
--- the listing of docs/RULES.md on which the plain engine is shown
-unfoldable pub shown : List (List ℕ)
-shown =
-    ascii "function f(a) {"
-    ∷ ascii "  r0 = 1;"
-    ∷ ascii "  r0 = a;"
-    ∷ ascii "  use(r0, r0);"
-    ∷ ascii "  r1 = 2;"
-    ∷ ascii "  if (a) {"
-    ∷ ascii "    r1 = 3;"
-    ∷ ascii "  }"
-    ∷ ascii "  use(r1, r1);"
-    ∷ ascii "  r2 = 4;"
-    ∷ ascii "  r2 = r2;"
-    ∷ ascii "  r3 = g();"
-    ∷ ascii "  while (a) {"
-    ∷ ascii "    r4 = 5;"
-    ∷ ascii "  }"
-    ∷ ascii "  r5 = a;"
-    ∷ ascii "}"
-    ∷ ascii "var x = r5;"
-    ∷ []
-
--- which of its lines go, by the sweep; what is expected is the original's own list
-pub shown-drops : sweepEngine plain shown
-    ≡ false ∷ true ∷ false ∷ false ∷ false ∷ false ∷ false ∷ false ∷ false ∷ false ∷ false ∷ false ∷ false ∷ false ∷ false ∷ true ∷ false ∷ false ∷ []
-unfolding shown upTo countOf prefixed suffixed same holds cutOn linesOf partsOf lacks noLf isWhite seqLen scan utf8Of whiteChar whiteHead whiteTail lead fromOf endWhite toOf trimOf numbered readNumber zeros decimalBy decimal numberAfter regOf phiOf isTemp isIdent allRegs isDecl storeIn parseOf textOf runsGo runs countBy upBy walkRuns runHits hitsGo hits oneHit regHit afterNew asTarget glueLeft glueRight glued replacedAt replaceReg quoteLen patternLen commentLen lastOf tokenOf tokenAt lexGo stripLexical tailOf pushed grown cleanStep isHeader headed regionsGo regions regionNext untilHeader region regionAt upHeader braceOf push count top stackAfter nextAfter blocksGo blocks cleaned mayAt depthAt depthAfter ownLine ownGo own startsAfter startsByLast startsAbove startsGo isAssign leftOf rightOf assignOf lineReads lineStores lineUses usedIn deep fix strip stripComments noComment spaceStart spaceEnd spaceTrim wrapped shapeOf openings closings elements pureBy judge purityIn purityCut pathCloses pathAfter pathNext pathsGo blockPaths tops opensLoop anyLoop loopsAfter loopsGo insideLoop nestOpen nestClose nestLine isMember liveBelow calledBelow scratchAt spotsOf spots linesIn tableAbove swept sweepDrops sweepEngine
-shown-drops = refl

@@ -18,5 +18,3 @@ pub mod NextLaws
 pub mod Told
 pub mod BackLaws
 pub mod NoteFills
-pub mod Engines
-pub mod EngineLaws

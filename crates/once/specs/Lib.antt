@@ -1,4 +1,3 @@
 pub mod Scratch
 pub mod Once
-pub mod Engines
 pub mod Inner

@@ -1,24 +1,23 @@
 // `optimize_once`: dead stores and scratch loads go, and a value that is read once on the next line goes there.
+pub mod below;
 mod noted;
-pub mod plain;
 
 ghost use mathlib.Core.Path.{_≡_};
 ghost use mathlib.Core.Bool.{true, false};
 ghost use mathlib.Core.List.{[], _∷_, _++_};
 ghost use Prim.Native.Nat.{_≤_, _<_, _+_, _^_};
 ghost use lib.Dec.{eqb};
-ghost use lib.ListN.{length, take, drop, getD, replicate};
+ghost use lib.ListN.{length, drop, getD, replicate};
 ghost use Rattle.lines.specs.Inner.Out.{Wrote};
 ghost use Rattle.lines.specs.Acts.{act, apply};
 ghost use Rattle.parse.specs.Parse.{parseOf};
 ghost use Rattle.lines.specs.Lf.{part, upTo, linesOf, unlines, prefixed, holds};
 ghost use Rattle.names.specs.Names.{regOf, isIdent};
 ghost use Rattle.once.specs.Scratch.{objectOf, isMember, liveBelow, changesBy, calledBelow, scratchAt};
-ghost use Rattle.once.specs.Once.{deadBy, readCount, firstOf, takenBy, onceActs, optimizeOnce};
-ghost use Rattle.once.specs.Engines.{sweepEngine};
+ghost use Rattle.once.specs.Once.{readCount, firstOf, takenBy, onceActs, optimizeOnce};
 ghost use Rattle.words.specs.Hits.{regHit, replaceReg};
 ghost use Rattle.reading.specs.Reading.{readingOf, pureIn};
-ghost use Rattle.once.specs.Inner.Tables.{readBelow, anyCall, nextIn, Blank, hasHit, storeDrops, lineDrops, storeForwards, lineForwards, onceMarks, goesIn, actBy, actsBy, isSet, firstDrops, firstTakes, markBy, firstMark, marksOf, areaAt};
+ghost use Rattle.once.specs.Inner.Tables.{readBelow, anyCall, Blank, hasHit, storeDrops, lineDrops, storeForwards, lineForwards, onceMarks, actBy, actsBy, isSet, firstDrops, firstTakes, markBy, firstMark, marksOf, areaAt};
 ghost use Rattle.once.specs.Inner.Noted.{noteStored, noteDead, CalmIn, Calm, LineAt, RowAt, DropIs, DropBy, sentTo, SendIs, SendBy, OneIs, OneBy, OneOf, firstLine, NotesOf, EndsOf};
 ghost use Rattle.place.specs.Inner.Fill.{Filled, flagsOf};
 ghost use Rattle.place.specs.Loops.{insideLoop};
@@ -26,11 +25,12 @@ ghost use Rattle.place.specs.Inner.Loops.{someLoop};
 ghost use Rattle.place.specs.Region.{region};
 ghost use Rattle.place.specs.Paths.{blockPaths, tops};
 ghost use Rattle.place.specs.Inner.Parents.{pathParents};
+ghost use Rattle.place.specs.Inner.Ends.{endsFrom};
 
 // The mark of a line: it stays, it goes, or it would go into the next line.
 const MARK_STAYS: u8 = 0;
 
-const MARK_GOES: u8 = 1;
+pub const MARK_GOES: u8 = 1;
 
 const MARK_SENDS: u8 = 2;
 
@@ -231,11 +231,11 @@ fn read_once(text: &[u8], reg: names::Register) -> bool
     n == 1
 }
 
-// Whether a value is pure. Scratch that held zeros holds zeros again.
-fn pure_value(mode: reading::Mode, x: &[u8], scratch: &mut [u8]) -> bool
-    requires { ⌜ Blank (length (now x)) (now scratch) ⌝ }
+// Whether a value is pure. Scratch is zeros afterwards, as far as the value is long.
+pub fn pure_value(mode: reading::Mode, x: &[u8], scratch: &mut [u8]) -> bool
+    requires { ⌜ length (now x) ≤ length (now scratch) ⌝ }
     ensures answer { λ r. ⌜ r ≡ pureIn (readingOf (mode .0)) (now (x .entry)) ⌝ }
-    ensures memory { λ _. ⌜ now (scratch .exit) ≡ now (scratch .entry) ⌝ }
+    ensures memory { λ _. ⌜ Wrote (now (scratch .entry)) 0 (replicate (length (now (x .entry))) 0) (now (scratch .exit)) (length (now (x .entry))) ⌝ }
 {
     let p = expr::purity(x, reading::is_strict(mode), scratch);
     lines::wipe(scratch, x.len());
@@ -281,7 +281,7 @@ fn store_drops(
     if note == noted::NOTE_DEAD {
         return true;
     }
-    plain::dead_below(below, paths, p, reg)
+    below::dead_below(below, paths, p, reg)
 }
 
 // Whether a line with a note, read as q, goes.
@@ -789,7 +789,7 @@ fn fill_loops(text: &[u8], some: bool, rows: usize, loops: &mut [u8]) -> usize
 
 // Fills the tables of a text: which lines stand in a loop, their block paths, what becomes of them, and where they end. The tables over registers
 // and of notes are zeros afterwards.
-fn decide(
+pub fn decide(
     mode: reading::Mode,
     text: &[u8],
     own: &[usize],
@@ -818,7 +818,7 @@ fn decide(
     ensures tables { λ _. ⌜ (now (near .exit) ≡ replicate (length (now (near .entry))) 0)
         × ((now (far .exit) ≡ replicate (length (now (far .entry))) 0)
         × ((now (stores .exit) ≡ replicate (length (now (stores .entry))) 0) × (now (notes .exit) ≡ replicate (length (now (notes .entry))) 0))) ⌝ }
-    ensures ends { λ _. ⌜ EndsOf (now (text .entry)) (now (ends .exit)) ⌝ }
+    ensures ends { λ _. ⌜ now (ends .exit) ≡ endsFrom 0 0 (linesOf (now (text .entry))) (replicate (length (now (ends .entry))) 0) ⌝ }
 {
     lines::wipe(scratch, text.len());
     slots::wipe(ends);
@@ -903,70 +903,4 @@ pub fn optimize_once(
     let m = put_acts(text, &marks[0..n], ends, mid);
     slots::wipe(ends);
     decls::prune_decls(&mid[0..m], own, seen, out)
-}
-
-// Turns the first n marks into whether each line goes.
-fn keep_goes(marks: &mut [u8], n: usize)
-    requires { ⌜ n ≤ length (now marks) ⌝ }
-    ensures { λ _. ⌜ Filled (now (marks .entry)) (flagsOf (goesIn (take n (now (marks .entry))))) (now (marks .exit)) n ⌝ }
-{
-    let mut k = 0;
-    while k < n {
-        marks[k] = place::flag(marks[k] == MARK_GOES);
-        k += 1;
-    }
-}
-
-// Writes for each line whether `optimize_once` drops it, and returns how many lines there are: the sweep that the pass itself makes, from the last
-// line up. `own` has the owners of places in the tables over registers: `near`, `far` and `stores`, of one length. These, `notes` and `ends`, of
-// one entry a line as far as they reach, are zeros afterwards.
-pub fn sweep_drops(
-    mode: reading::Mode,
-    text: &[u8],
-    own: &[usize],
-    scratch: &mut [u8],
-    loops: &mut [u8],
-    paths: &mut [usize],
-    up: &mut [u32],
-    near: &mut [u32],
-    far: &mut [u32],
-    stores: &mut [u32],
-    notes: &mut [u8],
-    ends: &mut [usize],
-    flags: &mut [u8],
-) -> usize
-    requires { ⌜ (length (linesOf (now text)) ≤ length (now loops))
-        × ((length (linesOf (now text)) ≤ length (now flags))
-        × ((length (linesOf (now text)) ≤ length (now paths))
-        × ((length (pathParents (linesOf (now text))) ≤ length (now up))
-        × ((length (now up) < 2 ^ 32)
-        × ((length (now text) ≤ length (now scratch)) × ((length (now far) ≡ length (now near)) × (length (now far) ≡ length (now stores)))))))) ⌝ }
-    ensures answer { λ r. ⌜ Filled (now (flags .entry)) (flagsOf (sweepEngine (readingOf (mode .0)) (linesOf (now (text .entry))))) (now (flags .exit)) r ⌝ }
-    ensures memory { λ _. ⌜ (Wrote (now (scratch .entry)) 0 (replicate (length (now (text .entry))) 0) (now (scratch .exit)) (length (now (text .entry))))
-        × ((Filled (now (loops .entry)) (flagsOf (insideLoop (linesOf (now (text .entry))))) (now (loops .exit)) (length (flagsOf (insideLoop (linesOf (now (text .entry)))))))
-        × ((Filled (now (paths .entry)) (tops (blockPaths (linesOf (now (text .entry))))) (now (paths .exit)) (length (tops (blockPaths (linesOf (now (text .entry)))))))
-        × (Filled (now (up .entry)) (pathParents (linesOf (now (text .entry)))) (now (up .exit)) (length (pathParents (linesOf (now (text .entry)))))))) ⌝ }
-    ensures tables { λ _. ⌜ (now (near .exit) ≡ replicate (length (now (near .entry))) 0)
-        × ((now (far .exit) ≡ replicate (length (now (far .entry))) 0)
-        × ((now (stores .exit) ≡ replicate (length (now (stores .entry))) 0)
-        × ((now (notes .exit) ≡ replicate (length (now (notes .entry))) 0) × (now (ends .exit) ≡ replicate (length (now (ends .entry))) 0)))) ⌝ }
-{
-    let n = decide(
-        mode,
-        text,
-        own,
-        scratch,
-        loops,
-        flags,
-        paths,
-        up,
-        near,
-        far,
-        stores,
-        notes,
-        ends,
-    );
-    slots::wipe(ends);
-    keep_goes(flags, n);
-    n
 }

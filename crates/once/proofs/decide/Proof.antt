@@ -4,6 +4,7 @@ use mathlib.Core.Path.{ap, _∙_}
 use native.Mathlib.Omega.{arith}
 use lib.ListN.{length}
 use Rattle.lines.specs.Lf.{linesOf}
+use Rattle.place.specs.Inner.Ends.{endsFrom}
 use Rattle.place.proofs.Paths.{length-tops}
 use Rattle.decls.proofs.SeenLaws.{wiped-most}
 use Rattle.reading.specs.Reading.{readingOf}
@@ -87,7 +88,7 @@ returns c =
     let b = c .before .before .before .before .before .before .before .before .before .before .before .before .before .before .before .before .before .before .before .before .before .before .before .before .before .before .before .before .before .before .before .before .before .before .block-paths .ensures in
     let f = c .before .before .before .before .before .before .before .before .before .before .before .before .before .before .before .before .before .before .before .before .before .before .before .before .before .before .fill-loops .ensures in
     let e = c .before .before .before .before .before .before .before .before .before .before .before .before .fill-marks .ensures in
-    (marks-filled (readingOf (a .mode .0)) (linesOf (a .text .now)) (filled-part (b .0 .0)) (filled-part f) (e .0), ((wrote-same (e .1 .0) (c .before .before .before .before .before .before .before .before .before .before .before .before .before .before .before .before .before .before .before .before .before .before .before .before .before .before .before .before .before .before .before .before .before .before .before .before .before .before .before .before .before .before .before .before .wipe .ensures), (filled-to f, (filled-to (b .0 .0), b .0 .1))), (e .1 .1, ends-of (a .text .now) _ _ (wiped-most (length (a .ends .now)) _ (c .before .before .before .before .before .before .before .before .before .before .before .before .before .before .before .before .before .before .before .before .before .before .before .before .before .before .before .before .before .before .before .before .before .before .before .before .before .before .before .before .wipe2 .ensures)) (b .1 .1))))
+    (marks-filled (readingOf (a .mode .0)) (linesOf (a .text .now)) (filled-part (b .0 .0)) (filled-part f) (e .0), ((wrote-same (e .1 .0) (c .before .before .before .before .before .before .before .before .before .before .before .before .before .before .before .before .before .before .before .before .before .before .before .before .before .before .before .before .before .before .before .before .before .before .before .before .before .before .before .before .before .before .before .before .wipe .ensures), (filled-to f, (filled-to (b .0 .0), b .0 .1))), (e .1 .1, b .1 .1 ∙ ap (endsFrom 0 0 (linesOf (a .text .now))) (c .before .before .before .before .before .before .before .before .before .before .before .before .before .before .before .before .before .before .before .before .before .before .before .before .before .before .before .before .before .before .before .before .before .before .before .before .before .before .before .before .wipe2 .ensures))))
 
 pub decide-spec : {M : Type 1} → statement M
 decide-spec =

@@ -1,12 +1,14 @@
 -- `once::optimize_once` meets its contract. Assumes nothing.
 use borrow.Author.Needs.{needs}
 use Prim.Native.Nat.{ℕ}
-use mathlib.Core.Path.{ap, _∙_}
+use mathlib.Core.Path.{refl, ap, _∙_}
 use native.Mathlib.Omega.{arith}
 use lib.ListN.{length, replicate}
 use Rattle.lines.specs.Lf.{linesOf}
 use Rattle.lines.proofs.OutLaws.{wrote-as}
 use Rattle.reading.specs.Reading.{readingOf}
+use Rattle.decls.proofs.SeenLaws.{wiped-most}
+use Rattle.once.proofs.BackLaws.{ends-of}
 use Rattle.once.proofs.Passes.{filled-part, filled-to, filled-le, wrote-first, wrote-to, acts-text, once-text}
 use Rattle.once.proofs.optimize_once.Statement.{statement}
 use Rattle.once.proofs.optimize_once.Tie as tie
@@ -24,7 +26,7 @@ part-put-acts-end : tie.Need-part-put-acts-end
 part-put-acts-end c = omega (arith, filled-le (c .before .before .before .before .before .before .before .before .before .before .before .before .before .before .before .before .before .before .before .before .before .decide .ensures .0))
 
 put-acts-requires : tie.Need-put-acts-requires
-put-acts-requires c κs = let a = c .before .before .before .before .before .before .before .before .before .before .before .before .before .before .before .before .before .before .before .before .before .before .before .before .before .before .before .before .before .before .before .before .before .before .before .before .before .before .before .before .before .before .before .before .before .before .before .before .before .before .args in (c .before .before .before .before .before .before .before .before .before .before .before .before .before .before .before .before .before .before .before .before .before .before .before .before .decide .ensures .1 .1 .1, omega (arith, ap length (acts-text (readingOf (a .mode .0)) (linesOf (a .text .now)) (filled-part (c .before .before .before .before .before .before .before .before .before .before .before .before .before .before .before .before .before .before .before .before .before .before .before .before .decide .ensures .0))), c .before .before .before .before .before .before .before .before .before .before .before .before .before .before .before .before .before .before .before .before .before .before .before .before .before .before .before .before .before .before .before .before .before .before .before .before .before .before .before .before .before .before .before .before .before .before .before .before .before .before .pre .1 .1 .1 .1 .1 .1 .0))
+put-acts-requires c κs = let a = c .before .before .before .before .before .before .before .before .before .before .before .before .before .before .before .before .before .before .before .before .before .before .before .before .before .before .before .before .before .before .before .before .before .before .before .before .before .before .before .before .before .before .before .before .before .before .before .before .before .before .args in (ends-of (a .text .now) _ _ (wiped-most (length (a .ends .now)) _ refl) (c .before .before .before .before .before .before .before .before .before .before .before .before .before .before .before .before .before .before .before .before .before .before .before .before .decide .ensures .1 .1 .1), omega (arith, ap length (acts-text (readingOf (a .mode .0)) (linesOf (a .text .now)) (filled-part (c .before .before .before .before .before .before .before .before .before .before .before .before .before .before .before .before .before .before .before .before .before .before .before .before .decide .ensures .0))), c .before .before .before .before .before .before .before .before .before .before .before .before .before .before .before .before .before .before .before .before .before .before .before .before .before .before .before .before .before .before .before .before .before .before .before .before .before .before .before .before .before .before .before .before .before .before .before .before .before .before .pre .1 .1 .1 .1 .1 .1 .0))
 
 wipe-requires : tie.Need-wipe-requires
 wipe-requires c κs = search needs

@@ -4,7 +4,7 @@ use native.Mathlib.Omega.{arith}
 use mathlib.Core.Bool.{Bool}
 use Rattle.expr.specs.Pure.{isPure, cutIn, purityIn}
 use Rattle.expr.proofs.QuoteLaws.{cut-length}
-use Rattle.once.proofs.Blanks.{wiped}
+use Rattle.once.proofs.Blanks.{wiped-over}
 use Rattle.once.proofs.pure_value.Statement.{statement}
 use Rattle.once.proofs.pure_value.Tie as tie
 use Rattle.once.proofs.pure_value.Reads as reads
@@ -20,7 +20,7 @@ is-strict-requires c κs = search needs
 purity-requires : tie.Need-purity-requires
 purity-requires c κs =
     let a = c .before .before .before .before in
-    omega (arith, cut-length (c .before .is-strict .result) (a .args .x .now), a .pre .room)
+    omega (arith, cut-length (c .before .is-strict .result) (a .args .x .now), a .pre)
 
 wipe-requires : tie.Need-wipe-requires
 wipe-requires c κs = search needs
@@ -36,7 +36,7 @@ returns c =
     let a = c .before .before .before .before .before .before .before .before .before .before .before .before in
     let g = c .before .before .before .before .before .before .before .before .before .is-strict in
     let e = c .before .before .before .before .before .before .before .purity .ensures in
-    (c .is-pure .ensures ∙ ap isPure (e .0 ∙ ap (λ (b : Bool). purityIn b (a .args .x .now)) (g .ensures)), wiped (cutIn (g .result) (a .args .x .now)) (a .pre) (cut-length (g .result) (a .args .x .now)) (e .1) (c .before .before .before .wipe .ensures))
+    (c .is-pure .ensures ∙ ap isPure (e .0 ∙ ap (λ (b : Bool). purityIn b (a .args .x .now)) (g .ensures)), wiped-over (cutIn (g .result) (a .args .x .now)) (a .pre) (cut-length (g .result) (a .args .x .now)) (e .1) (c .before .before .before .wipe .ensures))
 
 pub pure-value-spec : {M : Type 1} → statement M
 pure-value-spec =

@@ -119,11 +119,6 @@ unfoldable pub onceMarks : Reading → List (List ℕ) → List ℕ
 unfolding marksGo
 onceMarks R ls = marksGo R (spots ls) (region ls)
 
--- marks as tests: whether each line goes
-unfoldable pub goesIn : List ℕ → List Bool
-goesIn [] = []
-goesIn (m ∷ ms) = eqb m markGoes ∷ goesIn ms
-
 -- a line goes into the next: it would, and the next would not
 abbrev pub sends : ℕ → ℕ → Bool
 sends m n = eqb m markSends && not (eqb n markSends)
@@ -153,12 +148,6 @@ unfoldable pub firstDrops : Reading → List (List ℕ) → List ℕ → Bool �
 firstDrops R [] ps b = false
 firstDrops R (l ∷ ls) [] b = false
 firstDrops R (l ∷ ls) (p ∷ ps) b = lineDrops R l p b ls ps
-
--- whether each line goes; fs say whether each stands in a loop
-unfoldable pub dropsIn : Reading → List (List ℕ) → List ℕ → List ℕ → List Bool
-unfolding firstDrops top
-dropsIn R [] ps fs = []
-dropsIn R (l ∷ ls) ps fs = firstDrops R (l ∷ ls) ps (isSet (top fs)) ∷ dropsIn R ls (drop 1 ps) (drop 1 fs)
 
 -- a line that stays, whose region is run, goes into the first line below, which goes itself where `goes` says so
 unfoldable pub firstTakes : Reading → List ℕ → List (List ℕ) → Bool → Bool → List (List ℕ) → Bool

@@ -1,4 +1,4 @@
--- `once::plain::flag_lines` meets its contract. Assumes nothing.
+-- `engines::flag_lines` meets its contract. Assumes nothing.
 use borrow.Author.Needs.{needs}
 use Prim.Native.Nat.{ℕ, _-_}
 use mathlib.Core.Path.{_≡_, refl, ap, _∙_}
@@ -7,12 +7,12 @@ use lib.ListN.{length}
 use Rattle.lines.proofs.LfLaws.{find-le}
 use Rattle.lines.proofs.OutLaws.{writing-length}
 use Rattle.reading.specs.Reading.{readingOf}
 use Rattle.once.specs.Inner.Tables.{Blank}
 use Rattle.once.proofs.Blanks.{blank-as, blank-less}
 use Rattle.once.proofs.Decides.{value-room}
-use Rattle.once.proofs.EngineLaws.{FlagsInv, flags-start, row-there, flag-place, flags-on, flags-end}
-use Rattle.once.proofs.plain.flag_lines.Statement.{statement}
-use Rattle.once.proofs.plain.flag_lines.Tie as tie
+use Rattle.engines.proofs.EngineLaws.{FlagsInv, flags-start, row-there, flag-place, flags-on, flags-end}
+use Rattle.engines.proofs.flag_lines.Statement.{statement}
+use Rattle.engines.proofs.flag_lines.Tie as tie
 
 abbrev Inv-loop : tie.InvT-loop
 Inv-loop mode text paths loops scratch₀ flags₀ i₀ k₀ scratch flags i k = (scratch ≡ scratch₀) × (Blank (length text) scratch × FlagsInv (readingOf (mode .0)) text paths loops flags₀ flags i k)

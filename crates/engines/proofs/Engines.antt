@@ -9,10 +9,11 @@ use Rattle.parse.specs.declared.Line.{Line}
 use Rattle.parse.specs.declared.Line.the-variants as line
 use Rattle.place.specs.Region.{region}
 use Rattle.reading.specs.Reading.{Reading}
 use Rattle.once.specs.Once.{Spot, spots, Next, nextUse, droppedBy, dropped, forwards, nextRun, takenBy, onceAct, onceGo, onceActs}
-use Rattle.once.specs.Engines.{plainDrops, plainEngine, tableAbove, swept, sweepDrops, sweepEngine}
-use Rattle.once.specs.Inner.Tables.{marksGo, onceMarks, goesIn}
+use Rattle.engines.specs.Engines.{plainDrops, plainEngine, tableAbove, swept, sweepDrops, sweepEngine}
+use Rattle.once.specs.Inner.Tables.{marksGo, onceMarks}
+use Rattle.engines.specs.Inner.Flags.{goesIn}
 use Rattle.once.proofs.Marks.{mark-goes}
 
 -- ---- they are the same
 

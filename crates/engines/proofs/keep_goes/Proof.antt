@@ -1,11 +1,11 @@
--- `once::keep_goes` meets its contract. Assumes nothing.
+-- `engines::keep_goes` meets its contract. Assumes nothing.
 use borrow.Author.Needs.{needs}
 use Prim.Native.Nat.{ℕ, _-_}
 use native.Mathlib.Omega.{arith}
 use Rattle.lines.proofs.OutLaws.{writing-length}
-use Rattle.once.proofs.EngineLaws.{GoesInv, goes-start, goes-place, goes-on, goes-end}
-use Rattle.once.proofs.keep_goes.Statement.{statement}
-use Rattle.once.proofs.keep_goes.Tie as tie
+use Rattle.engines.proofs.EngineLaws.{GoesInv, goes-start, goes-place, goes-on, goes-end}
+use Rattle.engines.proofs.keep_goes.Statement.{statement}
+use Rattle.engines.proofs.keep_goes.Tie as tie
 
 abbrev Inv-loop : tie.InvT-loop
 Inv-loop marks₀ n k₀ marks k = GoesInv marks₀ marks n k

@@ -1,4 +1,4 @@
--- `once::plain::line_goes` meets its contract. Assumes nothing.
+-- `engines::line_goes` meets its contract. Assumes nothing.
 use borrow.Author.Needs.{needs}
 use Prim.Native.Nat.{ℕ}
 use mathlib.Core.List.{List}
@@ -8,11 +8,11 @@ use lib.ListN.{length}
 use Rattle.parse.specs.Parse.{textOf}
 use Rattle.reading.specs.Reading.{readingOf}
 use Rattle.lines.specs.Lf.{linesOf}
 use Rattle.once.specs.Inner.Tables.{dropsBy, storeDrops}
 use Rattle.once.proofs.Blanks.{blank-less}
 use Rattle.once.proofs.Decides.{drops-at, value-room}
-use Rattle.once.proofs.plain.line_goes.Statement.{statement}
-use Rattle.once.proofs.plain.line_goes.Tie as tie
+use Rattle.engines.proofs.line_goes.Statement.{statement}
+use Rattle.engines.proofs.line_goes.Tie as tie
 
 parse-requires : tie.Need-parse-requires
 parse-requires c κs = search needs

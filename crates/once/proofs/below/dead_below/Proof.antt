@@ -8,10 +8,10 @@ use Rattle.lines.proofs.LfLaws.{find-le}
 use Rattle.once.specs.Once.{deadBy}
 use Rattle.once.specs.Inner.Tables.{nextIn}
 use Rattle.once.proofs.Searches.{next-past, next-header, next-read, next-write, next-on, next-end}
-use Rattle.once.proofs.plain.dead_below.Statement.{statement}
-use Rattle.once.proofs.plain.dead_below.Tie as tie
-use Rattle.once.proofs.plain.dead_below.Reads as reads
-use Rattle.once.proofs.plain.dead_below.Lts as lts
+use Rattle.once.proofs.below.dead_below.Statement.{statement}
+use Rattle.once.proofs.below.dead_below.Tie as tie
+use Rattle.once.proofs.below.dead_below.Reads as reads
+use Rattle.once.proofs.below.dead_below.Lts as lts
 use Rattle.lines.proofs.after.Reads as after-reads
 use Rattle.lines.proofs.find_byte.Reads as find-byte-reads
 use Rattle.place.proofs.is_header.Reads as is-header-reads

@@ -1,4 +1,4 @@
--- `once::plain::plain_drops` meets its contract. Assumes nothing.
+-- `engines::plain_drops` meets its contract. Assumes nothing.
 use borrow.Author.Needs.{needs}
 use mathlib.Core.Path.{ap, _∙_}
 use native.Mathlib.Omega.{arith}
@@ -9,11 +9,11 @@ use Rattle.place.proofs.Fills.{flags-length}
 use Rattle.place.proofs.Paths.{length-tops}
 use Rattle.place.proofs.Nests.{length-loops}
 use Rattle.reading.specs.Reading.{readingOf}
 use Rattle.once.proofs.Blanks.{blank-wiped}
 use Rattle.once.proofs.Passes.{filled-part, filled-to, filled-le, wrote-same}
-use Rattle.once.proofs.EngineLaws.{plain-filled}
-use Rattle.once.proofs.plain.plain_drops.Statement.{statement}
-use Rattle.once.proofs.plain.plain_drops.Tie as tie
+use Rattle.engines.proofs.EngineLaws.{plain-filled}
+use Rattle.engines.proofs.plain_drops.Statement.{statement}
+use Rattle.engines.proofs.plain_drops.Tie as tie
 
 wipe-requires : tie.Need-wipe-requires
 wipe-requires c κs = c .before .before .before .before .before .before .before .pre .1 .1 .1 .1 .1

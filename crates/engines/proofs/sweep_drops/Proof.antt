@@ -1,4 +1,4 @@
--- `once::sweep_drops` meets its contract. Assumes nothing.
+-- `engines::sweep_drops` meets its contract. Assumes nothing.
 use borrow.Author.Needs.{needs}
 use Prim.Native.Nat.{ℕ}
 use mathlib.Core.Path.{ap, _∙_}
@@ -6,10 +6,10 @@ use native.Mathlib.Omega.{arith}
 use lib.ListN.{length, replicate}
 use Rattle.lines.specs.Lf.{linesOf}
 use Rattle.reading.specs.Reading.{readingOf}
 use Rattle.once.proofs.Passes.{filled-le}
-use Rattle.once.proofs.EngineLaws.{sweep-filled}
-use Rattle.once.proofs.sweep_drops.Statement.{statement}
-use Rattle.once.proofs.sweep_drops.Tie as tie
+use Rattle.engines.proofs.EngineLaws.{sweep-filled}
+use Rattle.engines.proofs.sweep_drops.Statement.{statement}
+use Rattle.engines.proofs.sweep_drops.Tie as tie
 
 decide-requires : tie.Need-decide-requires
 decide-requires c κs = c .before .before .before .before .before .before .before .before .before .before .before .before .before .before .before .before .before .before .before .before .before .before .pre

@@ -10,7 +10,6 @@ use lib.ListN.{length, take, drop, getD, set}
 use lib.Seq.{drop-cons, drop-drop, getD-at, length-take-le}
 use Rattle.lines.specs.Lf.{part, upTo, linesOf}
 use Rattle.lines.specs.Inner.Out.{putAt}
-use Rattle.lines.specs.Inner.Lf.{lacks}
 use Rattle.lines.proofs.LfLaws.{lines-at, lines-end}
 use Rattle.lines.proofs.OutLaws.{Writing, writing-start, writing-as, writing-room}
 use Rattle.place.specs.Blocks.{top}
@@ -21,20 +20,14 @@ use Rattle.place.proofs.Fills.{entry-on, entry-end, flags-length, filled-as, fi
 use Rattle.place.proofs.Paths.{length-tops}
 use Rattle.place.proofs.Nests.{length-loops}
 use Rattle.reading.specs.Reading.{Reading}
 use Rattle.once.specs.Once.{Spot, spotsOf, spots, dropped}
-use Rattle.once.specs.Engines.{plainDrops, plainEngine, sweepEngine}
-use Rattle.once.specs.Inner.Tables.{isSet, lineDrops, firstDrops, dropsIn, goesIn, onceMarks}
-use Rattle.once.specs.Inner.Noted.{CalmIn}
+use Rattle.engines.specs.Engines.{plainDrops, plainEngine, sweepEngine}
+use Rattle.once.specs.Inner.Tables.{isSet, lineDrops, firstDrops, onceMarks}
+use Rattle.engines.specs.Inner.Flags.{dropsIn, goesIn}
 use Rattle.once.proofs.Marks.{drops-is}
 use Rattle.once.proofs.Fills.{flag-set, first-line}
 use Rattle.once.proofs.Writes.{top-drop}
-use Rattle.once.proofs.Engines.{engines-same, engine-marks}
-
--- nothing holds no `(`
-pub calm-none : (s : List ℕ) → CalmIn s 0
-unfolding lacks
-calm-none [] h = refl
-calm-none (x ∷ s) h = absurd (omega arith)
+use Rattle.engines.proofs.Engines.{engines-same, engine-marks}
 
 -- ---- the loop of the plain engine, over tables
 
