@@ -4,7 +4,7 @@ use mathlib.Core.Path.{_≡_, refl, sym, ap, _∙_}
 use mathlib.Core.Bool.{Bool, true, false, _||_}
 use mathlib.Core.List.{List}
 use native.Mathlib.Omega.{arith}
-use lib.ListN.{length, replicate, length-take, length-drop, length-map}
+use lib.ListN.{length, replicate, length-replicate, length-take, length-drop, length-map}
 use Rattle.lines.specs.Lf.{part, countOf, linesOf, unlines}
 use Rattle.lines.specs.Steps.{dropCr, splitLines}
 use Rattle.lines.proofs.Counts.{drop-counts}
@@ -57,14 +57,9 @@ pass-room pass light t =
     let d = weight-twice t in
     omega arith
 
--- the length of a table of zeros
-zeros-length : (n : ℕ) → length (replicate {A = ℕ} n 0) ≡ n
-zeros-length zero = refl
-zeros-length (suc n) = ap suc (zeros-length n)
-
 -- room in tables of m lines and of m blocks, for the lines of a text and for the blocks that they open
 pub rows-room : (m : ℕ) (t : List ℕ) → length (splitLines t) ≤ m → length (linesOf t) ≤ length (replicate {A = ℕ} m 0)
-rows-room m t h = omega (arith, zeros-length m, lines-count t)
+rows-room m t h = omega (arith, length-replicate {A = ℕ} m 0, lines-count t)
 
 pub blocks-room : (m : ℕ) (t : List ℕ) → countOf 123 t ≤ m → length (pathParents (linesOf t)) ≤ length (replicate {A = ℕ} m 0)
-blocks-room m t h = omega (arith, zeros-length m, path-parents-text t)
+blocks-room m t h = omega (arith, length-replicate {A = ℕ} m 0, path-parents-text t)

@@ -10,6 +10,7 @@ use lib.ListN.{length, drop, getD}
 use Rattle.place.specs.Region.{isHeader}
 use Rattle.reading.specs.Reading.{plain}
 use Rattle.reading.specs.Uses.{lineReads, lineStores}
+use Rattle.decls.specs.Inner.Firsts.{firstBy, storeFrom, headFrom}
 use Rattle.calls.specs.LeavesOf.{parsedOf, leavesOf}
 use Rattle.calls.specs.Calls.{storesIn, readLater}
 use Rattle.calls.proofs.StepLaws.{stores-parsed}
@@ -25,26 +26,6 @@ lastBy head stores reads c r = cond head 0 (cond stores (cond reads c 0) (cond (
 unfoldable pub readEnd : ℕ → List (List ℕ) → ℕ
 readEnd v [] = 0
 readEnd v (l ∷ ls) = lastBy (isHeader l) (lineStores v l) (ltb 0 (lineReads v l)) (suc (length ls)) (readEnd v ls)
-
--- of the first line that passes a test
-unfoldable pub firstBy : (List ℕ → Bool) → List (List ℕ) → ℕ
-firstBy f [] = 0
-firstBy f (l ∷ ls) = cond (f l) (suc (length ls)) (firstBy f ls)
-
-abbrev pub headFrom : List (List ℕ) → ℕ
-headFrom ls = firstBy (λ (l : List ℕ). isHeader l) ls
-
-abbrev pub storeFrom : ℕ → List (List ℕ) → ℕ
-storeFrom v ls = firstBy (λ (l : List ℕ). lineStores v l) ls
-
-pub first-le : (f : List ℕ → Bool) (ls : List (List ℕ)) → firstBy f ls ≤ length ls
-unfolding firstBy
-first-le f [] = omega arith
-first-le f (l ∷ ls) = go (f l) (first-le f ls)
-  where
-    go : (b : Bool) → firstBy f ls ≤ length ls → cond b (suc (length ls)) (firstBy f ls) ≤ suc (length ls)
-    go true h = omega arith
-    go false h = omega arith
 
 last-le : (a b r : Bool) (c e : ℕ) → e ≤ c → lastBy a b r c e ≤ c
 unfolding lastBy

@@ -24,15 +24,16 @@ use Rattle.words.proofs.Walk.{RegWalk, regs-start, regs-less, regs-on, regs-end
 use Rattle.place.specs.Region.{isHeader}
 use Rattle.reading.specs.Reading.{plain}
 use Rattle.reading.specs.Uses.{lineReads, storesBy, lineStores}
+use Rattle.decls.specs.Inner.Firsts.{firstBy, storeFrom, headFrom}
 use Rattle.decls.specs.Inner.Seen.{markStore, AtMost}
-use Rattle.decls.proofs.SeenLaws.{entry-past}
+use Rattle.decls.proofs.SeenLaws.{entry-past, store-length, store-entry, first-le}
 use Rattle.slots.specs.Inner.Slots.{slotOf, entryOf, withEntry}
 use Rattle.slots.proofs.SlotLaws.{Placed, slot-kept, entry-length, entry-same, entry-other}
 use Rattle.calls.specs.LeavesOf.{leavesOf}
 use Rattle.calls.specs.Calls.{readLater}
 use Rattle.calls.specs.Inner.Tables.{lineAt}
 use Rattle.calls.specs.Inner.Later.{readIn, readName, readRuns, readSpan, stopSpan, hasPlaces, notePut, noteLine, Noted, Spans}
-use Rattle.calls.proofs.Lasts.{lastBy, readEnd, firstBy, headFrom, storeFrom, first-le, later-true, later-false}
+use Rattle.calls.proofs.Lasts.{lastBy, readEnd, later-true, later-false}
 
 -- ---- the entry of a register after the line with the number c, where h is the number of the next header below, and e was its entry
 
@@ -47,13 +48,6 @@ seen-high c h e k = go (ltb h e) refl
     go true q = rw q
     go false q = rw (lt-ltb h c k)
 
-entry-put : (own d : List ℕ) (u x v : ℕ) → Placed own v d → entryOf own v (withEntry own u x d) ≡ cond (eqb u v) x (entryOf own v d)
-entry-put own d u x v h = go (eqb u v) refl
-  where
-    go : (b : Bool) → eqb u v ≡ b → entryOf own v (withEntry own u x d) ≡ cond b x (entryOf own v d)
-    go true e = ap (λ (n : ℕ). entryOf own v (withEntry own n x d)) (eqb-true u v e) ∙ entry-same own d v x h
-    go false e = entry-other own d u x v h (eqb-false u v e)
-
 name-length : (own : List ℕ) (c h : ℕ) (r : RegName) (d : List ℕ) → length (readName own c h r d) ≡ length d
 name-length own c h name.None d = refl
 name-length own c h (name.Reg q) d = go (ltb h (entryOf own (q .0) d))
@@ -66,11 +60,6 @@ pub runs-length : (own : List ℕ) (c h : ℕ) (rs : List (List ℕ)) (d : List 
 unfolding readRuns
 runs-length own c h [] d = refl
 runs-length own c h (r ∷ rs) d = runs-length own c h rs (readName own c h (regOf r) d) ∙ name-length own c h (regOf r) d
-
-pub store-length : (own : List ℕ) (m : ℕ) (p : Line) (d : List ℕ) → length (markStore own m p d) ≡ length d
-store-length own m line.Decl d = refl
-store-length own m (line.Store s) d = entry-length own d (s .reg .0) m
-store-length own m line.Other d = refl
 
 pub note-length : (own : List ℕ) (p : Line) (k c h : ℕ) (near stores d : List ℕ) → length (noteLine own p k c h near stores d) ≡ length d
 note-length own line.Decl k c h near stores d = refl
@@ -128,11 +117,6 @@ runs-entry own c h v (r ∷ rs) d i k =
         let z : 0 < suc n = omega arith in
         ap (λ (x : ℕ). cond (ltb 0 n) x (seenBy c h e)) (seen-high c h e i) ∙ both (ltb 0 n) (seenBy c h e) ∙ sym (ap (λ (b : Bool). cond b (seenBy c h e) e) (lt-ltb 0 (suc n) z))
     go false n = refl
-
-store-entry : (own : List ℕ) (m v : ℕ) (p : Line) (d : List ℕ) → Placed own v d → entryOf own v (markStore own m p d) ≡ cond (storesBy v p) m (entryOf own v d)
-store-entry own m v line.Decl d h = refl
-store-entry own m v (line.Store s) d h = entry-put own d (s .reg .0) m v h
-store-entry own m v line.Other d h = refl
 
 -- ---- the tables after the lines ls
 

@@ -18,9 +18,10 @@ use Rattle.place.proofs.Marks.{marks-length}
 use Rattle.decls.specs.Inner.Seen.{markStore, AtMost}
 use Rattle.records.specs.Inner.Records.{Told}
 use Rattle.records.proofs.Shown.{told-long}
+use Rattle.decls.proofs.SeenLaws.{store-length}
 use Rattle.calls.specs.Inner.Tables.{lineAt}
 use Rattle.calls.specs.Inner.Later.{readRuns, noteLine, Spans}
-use Rattle.calls.proofs.Notes.{runs-length, store-length, note-length, Tail, tail-none, tail-on, spans-none, spans-on}
+use Rattle.calls.proofs.Notes.{runs-length, note-length, Tail, tail-none, tail-on, spans-none, spans-on}
 
 -- ---- the line with k above it
 

@@ -8,7 +8,6 @@ use lib.ListN.{length, take, drop, replicate, length-append, length-replicate}
 use lib.Seq.{length-take-le}
 use Rattle.lines.specs.Lf.{part, linesOf, unlines, endsIn}
 use Rattle.lines.specs.Inner.Out.{putAt, Wrote}
-use Rattle.lines.proofs.OutLaws.{wrote-whole}
 use Rattle.lines.proofs.StepLaws.{missingLf, missing-ended, missing-empty, missing-open, lines-text}
 use Rattle.place.specs.Blocks.{cleaned}
 use Rattle.place.specs.Inner.Blocks.{blockIds}
@@ -20,11 +19,6 @@ use Rattle.reading.specs.Reading.{plain}
 use Rattle.calls.specs.LeavesOf.{leavesOf}
 use Rattle.calls.specs.Calls.{rebuildCalls}
 use Rattle.calls.specs.Inner.Tables.{Placed, Rebuilt}
-
--- ---- a buffer of n bytes that is wiped
-
-pub wiped-all : {d d′ : List ℕ} {n r : ℕ} → length d ≡ n → Wrote d 0 (replicate (length d) 0) d′ r → d′ ≡ replicate n 0
-wiped-all {d} e w = wrote-whole w (length-replicate {A = ℕ} (length d) 0) ∙ ap (λ (k : ℕ). replicate k 0) e
 
 -- ---- the tables
 

@@ -1,5 +1,4 @@
 // Answers requests to check prunings, and tells of each whether every lent byte is as it should be.
-mod lent;
 mod wire;
 
 ghost use mathlib.Core.Path.{_≡_};
@@ -20,14 +19,14 @@ fn text_room() -> [u8; 16385]
 fn byte_room() -> [u8; 16393]
     ensures { λ r. ⌜ 16393 ≡ length r ⌝ }
 {
-    [lent::BYTE; 16393]
+    [input::lent::BYTE; 16393]
 }
 
 // A filled work buffer of places, some longer than it has to be.
 fn place_room() -> [u8; 1033]
     ensures { λ r. ⌜ 1033 ≡ length r ⌝ }
 {
-    [lent::BYTE; 1033]
+    [input::lent::BYTE; 1033]
 }
 
 // How much of the work buffer `which` is lent, of `there`: one byte less than is stated where the request says so.
@@ -82,10 +81,10 @@ fn answer(short: usize, raw: &[u8], other: &[u8]) -> bool {
     let mut live = place_room();
     let got = ask(short, raw, other, &mut a, &mut b, &mut c, &mut live);
     let ran = has_run(got);
-    let memory = lent::as_fixed(&a, pruned::BYTES, ran)
-        & lent::as_fixed(&b, pruned::BYTES, ran)
-        & lent::as_fixed(&c, pruned::BYTES, ran)
-        & lent::as_fixed(&live, pruned::PLACES, ran);
+    let memory = input::lent::as_fixed(&a, pruned::BYTES, ran)
+        & input::lent::as_fixed(&b, pruned::BYTES, ran)
+        & input::lent::as_fixed(&c, pruned::BYTES, ran)
+        & input::lent::as_fixed(&live, pruned::PLACES, ran);
     wire::write_answer(
         STDOUT_FILENO,
         pruned::number_of(got),

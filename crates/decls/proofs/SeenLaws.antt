@@ -27,7 +27,8 @@ use Rattle.place.proofs.Regions.{past, end-stop, end-on, end-end, region-at, re
 use Rattle.words.proofs.Walk.{Walk, walk-start, walk-name, walk-gap, walk-end}
 use Rattle.reading.specs.Uses.{lineReads, storesBy, lineStores, lineUses, usedIn}
 use Rattle.slots.specs.Inner.Slots.{slotOf, entryOf, withEntry}
-use Rattle.slots.proofs.SlotLaws.{slot-kept, entry-length, entry-same, entry-other}
+use Rattle.slots.proofs.SlotLaws.{Placed, slot-kept, entry-length, entry-same, entry-other, entry-after}
+use Rattle.decls.specs.Inner.Firsts.{firstBy}
 use Rattle.decls.specs.Inner.Seen.{markName, markRuns, markStore, markLine, markLines, AtMost, Says, askedIn, seenStays, Quiet, quiet-none, quiet-more}
 use Rattle.decls.specs.Inner.Decls.{staysBy}
 
@@ -53,10 +54,16 @@ unfolding markRuns
 runs-length own m [] d = refl
 runs-length own m (r ∷ rs) d = runs-length own m rs (markName own m (regOf r) d) ∙ name-length own m (regOf r) d
 
-store-length : (own : List ℕ) (m : ℕ) (p : Line) (d : List ℕ) → length (markStore own m p d) ≡ length d
+pub store-length : (own : List ℕ) (m : ℕ) (p : Line) (d : List ℕ) → length (markStore own m p d) ≡ length d
 store-length own m line.Decl d = refl
 store-length own m (line.Store s) d = entry-length own d (s .reg .0) m
 store-length own m line.Other d = refl
+
+-- the entry of register v after a store
+pub store-entry : (own : List ℕ) (m v : ℕ) (p : Line) (d : List ℕ) → Placed own v d → entryOf own v (markStore own m p d) ≡ cond (storesBy v p) m (entryOf own v d)
+store-entry own m v line.Decl d h = refl
+store-entry own m v (line.Store s) d h = entry-after own d (s .reg .0) m v h
+store-entry own m v line.Other d h = refl
 
 pub line-length : (own : List ℕ) (m : ℕ) (l : List ℕ) (d : List ℕ) → length (markLine own m l d) ≡ length d
 unfolding markLine
@@ -77,29 +84,25 @@ after false true c = refl
 after false false c = refl
 
 module _ (own : List ℕ) (m v : ℕ) where
-  -- it has one in the table d
-  abbrev Placed : List ℕ → Type 0
-  Placed d = slotOf (length d) own v < length d
-
   -- its mark is m
   abbrev marked : List ℕ → Bool
   marked d = eqb (entryOf own v d) m
 
-  placed : (d d′ : List ℕ) → length d′ ≡ length d → Placed d → Placed d′
+  placed : (d d′ : List ℕ) → length d′ ≡ length d → Placed own v d → Placed own v d′
   placed d d′ e h = slot-kept own d d′ v e h
 
-  entry-says : (k : ℕ) (d : List ℕ) → Placed d → marked (withEntry own k m d) ≡ eqb k v || marked d
+  entry-says : (k : ℕ) (d : List ℕ) → Placed own v d → marked (withEntry own k m d) ≡ eqb k v || marked d
   entry-says k d h = go (eqb k v) refl
     where
       go : (t : Bool) → eqb k v ≡ t → marked (withEntry own k m d) ≡ t || marked d
       go true e = eq-eqb _ m (ap (λ (n : ℕ). entryOf own v (withEntry own n m d)) (eqb-true k v e) ∙ entry-same own d v m h)
       go false e = ap (λ (n : ℕ). eqb n m) (entry-other own d k m v h (eqb-false k v e))
 
-  name-says : (r : RegName) (d : List ℕ) → Placed d → marked (markName own m r d) ≡ regIs v r || marked d
+  name-says : (r : RegName) (d : List ℕ) → Placed own v d → marked (markName own m r d) ≡ regIs v r || marked d
   name-says name.None d h = refl
   name-says (name.Reg q) d h = entry-says (q .0) d h
 
-  runs-says : (rs : List (List ℕ)) (d : List ℕ) → Placed d → marked (markRuns own m rs d) ≡ ltb 0 (countBy (λ (r : List ℕ). regIs v (regOf r)) rs) || marked d
+  runs-says : (rs : List (List ℕ)) (d : List ℕ) → Placed own v d → marked (markRuns own m rs d) ≡ ltb 0 (countBy (λ (r : List ℕ). regIs v (regOf r)) rs) || marked d
   unfolding markRuns countBy
   runs-says [] d h = refl
   runs-says (r ∷ rs) d h =
@@ -111,12 +114,12 @@ module _ (own : List ℕ) (m v : ℕ) where
       go true n = let z : 0 < suc n = omega arith in or-true (ltb 0 n) ∙ sym (ap (λ (b : Bool). b || marked d) (lt-ltb 0 (suc n) z))
       go false n = refl
 
-  store-says : (p : Line) (d : List ℕ) → Placed d → marked (markStore own m p d) ≡ storesBy v p || marked d
+  store-says : (p : Line) (d : List ℕ) → Placed own v d → marked (markStore own m p d) ≡ storesBy v p || marked d
   store-says line.Decl d h = refl
   store-says (line.Store s) d h = entry-says (s .reg .0) d h
   store-says line.Other d h = refl
 
-  line-says : (l d : List ℕ) → Placed d → marked (markLine own m l d) ≡ lineUses v l || marked d
+  line-says : (l d : List ℕ) → Placed own v d → marked (markLine own m l d) ≡ lineUses v l || marked d
   unfolding markLine lineUses lineStores lineReads
   line-says l d h =
       let p : Line = parseOf l in
@@ -124,7 +127,7 @@ module _ (own : List ℕ) (m v : ℕ) where
       ∙ ap (λ (b : Bool). ltb 0 (readsOf v (textOf l p)) || b) (store-says p d h)
       ∙ after (storesBy v p) (ltb 0 (readsOf v (textOf l p))) (marked d)
 
-  lines-says : (ls : List (List ℕ)) (d : List ℕ) → Placed d → marked (markLines own m ls d) ≡ usedIn v ls || marked d
+  lines-says : (ls : List (List ℕ)) (d : List ℕ) → Placed own v d → marked (markLines own m ls d) ≡ usedIn v ls || marked d
   unfolding markLines usedIn
   lines-says [] d h = refl
   lines-says (l ∷ ls) d h =
@@ -410,3 +413,14 @@ zeros-most n = λ v. go n v
 
 pub wiped-most : (n : ℕ) (d : List ℕ) → d ≡ replicate n 0 → AtMost 0 d
 wiped-most n d e = rw e (zeros-most n)
+
+-- ---- the number of the first line that passes a test
+
+pub first-le : (f : List ℕ → Bool) (ls : List (List ℕ)) → firstBy f ls ≤ length ls
+unfolding firstBy
+first-le f [] = omega arith
+first-le f (l ∷ ls) = go (f l) (first-le f ls)
+  where
+    go : (b : Bool) → firstBy f ls ≤ length ls → cond b (suc (length ls)) (firstBy f ls) ≤ suc (length ls)
+    go true h = omega arith
+    go false h = omega arith

@@ -118,11 +118,11 @@ prune-start t d h = record {
 pub record RunAt (t : List ℕ) (a i e a′ : ℕ) : Type 0 where
   pub lines : region (linesOf (drop a′ t)) ≡ regionAt (part i e t) (linesOf (drop (min (e + 1) (length t)) t)) (region (linesOf (drop a t)))
 
-at-same : (l : List ℕ) (ls run : List (List ℕ)) → isHeader l ≡ false → run ≡ regionAt l ls run
+pub at-same : (l : List ℕ) (ls run : List (List ℕ)) → isHeader l ≡ false → run ≡ regionAt l ls run
 unfolding regionAt
 at-same l ls run e = rw e
 
-at-new : (l : List ℕ) (ls run : List (List ℕ)) → isHeader l ≡ true → region (l ∷ ls) ≡ regionAt l ls run
+pub at-new : (l : List ℕ) (ls run : List (List ℕ)) → isHeader l ≡ true → region (l ∷ ls) ≡ regionAt l ls run
 unfolding regionAt region
 at-new l ls run e = rw e
 

@@ -1,3 +1,4 @@
 pub mod Decls
 pub mod Print
 pub mod Seen
+pub mod Firsts

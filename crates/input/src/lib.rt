@@ -1,4 +1,5 @@
 // Reading a text whole, or saying that it did not come whole.
+pub mod lent;
 pub mod wire;
 
 ghost use Prim.Native.Nat.{_≤_};

@@ -10,8 +10,9 @@ use lib.ListN.{length, drop}
 use Rattle.place.specs.Region.{isHeader, untilHeader, region, regionAt}
 use Rattle.reading.specs.Uses.{lineReads}
 use Rattle.once.specs.Once.{readCount}
-use Rattle.once.specs.Inner.Noted.{firstBy, readFrom, headFrom, farFrom, areaOf}
-use Rattle.once.proofs.NextLaws.{first-le}
+use Rattle.once.specs.Inner.Noted.{farFrom, areaOf}
+use Rattle.decls.specs.Inner.Firsts.{firstBy, readFrom, headFrom}
+use Rattle.decls.proofs.SeenLaws.{first-le}
 
 -- ---- from the first line on: run is the region of the line above the one with k above it
 

@@ -6,13 +6,9 @@ use native.Mathlib.Omega.{arith}
 use lib.ListN.{length, take, drop, replicate, length-replicate, take-append-drop}
 use lib.Seq.{take-take, drop-drop, drop-append-add}
 use Rattle.lines.specs.Inner.Out.{putAt, Wrote}
-use Rattle.lines.proofs.OutLaws.{wrote-length, wrote-part}
+use Rattle.lines.proofs.OutLaws.{put-length, wrote-length, wrote-part}
+use Rattle.slots.proofs.SlotLaws.{zeros-take, wiped-past}
 use Rattle.once.specs.Inner.Tables.{Blank}
-
-zeros-less : (n m : ℕ) → n ≤ m → take n (replicate m 0) ≡ replicate {A = ℕ} n 0
-zeros-less zero m h = refl
-zeros-less (suc n) zero h = absurd (omega arith)
-zeros-less (suc n) (suc m) h = ap (λ (l : List ℕ). 0 ∷ l) (zeros-less n m (omega arith))
 
 past : (t d : List ℕ) (n : ℕ) → length t ≤ n → drop n (t ++ drop (length t) d) ≡ drop n d
 past t d n h =
@@ -26,17 +22,8 @@ past t d n h =
 pub wiped-over : {n : ℕ} {d d₁ d₂ : List ℕ} (t : List ℕ) → n ≤ length d → length t ≤ n → d₁ ≡ putAt d 0 t → Wrote d₁ 0 (replicate n 0) d₂ n → Wrote d 0 (replicate n 0) d₂ n
 unfolding putAt
 wiped-over {n} {d} {d₁} {d₂} t r h e w =
-    let z : 0 + length (replicate {A = ℕ} n 0) ≡ n = omega (arith, length-replicate {A = ℕ} n 0) in
     let y : 0 + length t ≡ length t = omega arith in
-    record {
-      fits = omega arith;
-      place = w .place;
-      holds = w .holds
-          ∙ ap (λ (k : ℕ). replicate n 0 ++ drop k d₁) z
-          ∙ ap (λ (l : List ℕ). replicate n 0 ++ drop n l) (e ∙ ap (λ (k : ℕ). t ++ drop k d) y)
-          ∙ ap (λ (l : List ℕ). replicate n 0 ++ l) (past t d n h)
-          ∙ ap (λ (k : ℕ). replicate n 0 ++ drop k d) (sym z);
-    }
+    wiped-past n d d₁ d₂ (ap (drop n) (e ∙ ap (λ (k : ℕ). t ++ drop k d) y) ∙ past t d n h) (ap length e ∙ put-length d 0 t (omega arith)) w
 
 -- zeros that are wiped stay as they are
 pub blank-kept : {n : ℕ} {d d′ : List ℕ} → Blank n d → Wrote d 0 (replicate n 0) d′ n → d′ ≡ d
@@ -52,7 +39,7 @@ blank-kept {n} {d} {d′} b w =
 pub blank-less : {m n : ℕ} {d : List ℕ} → n ≤ m → Blank m d → Blank n d
 blank-less {m} {n} {d} h b = record {
   room = omega (arith, b .room);
-  zeros = sym (take-take n m d h) ∙ ap (take n) (b .zeros) ∙ zeros-less n m h;
+  zeros = sym (take-take n m d h) ∙ ap (take n) (b .zeros) ∙ zeros-take n m refl h;
 }
 
 pub blank-as : {n : ℕ} {d d′ : List ℕ} → d′ ≡ d → Blank n d → Blank n d′

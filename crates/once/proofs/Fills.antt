@@ -20,6 +20,7 @@ use Rattle.place.proofs.Fills.{entry-on, entry-end, filled-as}
 use Rattle.place.proofs.Paths.{length-tops}
 use Rattle.place.proofs.Nests.{length-loops}
 use Rattle.reading.specs.Reading.{Reading}
+use Rattle.decls.proofs.Writes.{at-same, at-new}
 use Rattle.once.specs.Once.{Spot, spotsOf, spots, linesIn, dropped, forwards, nextRun, onceGo, onceActs}
 use Rattle.once.specs.Inner.Tables.{Blank, lineDrops, lineForwards, markOf, marksGo, onceMarks, actsBy, isSet, firstDrops, firstTakes, markBy, firstMark, marksIn, marksOf, areaAt}
 use Rattle.once.specs.Inner.Noted.{RowAt}
@@ -156,14 +157,6 @@ mark-stays q = rw q
 -- the region at the front of a rest
 abbrev pub linesAt : List ℕ → ℕ → List (List ℕ)
 linesAt t w = region (linesOf (drop w t))
-
-at-same : (l : List ℕ) (ls run : List (List ℕ)) → isHeader l ≡ false → run ≡ regionAt l ls run
-unfolding regionAt
-at-same l ls run e = rw e
-
-at-new : (l : List ℕ) (ls run : List (List ℕ)) → isHeader l ≡ true → region (l ∷ ls) ≡ regionAt l ls run
-unfolding regionAt region
-at-new l ls run e = rw e
 
 pub area-run : (t : List ℕ) (i e above : ℕ) → i < length t → e ≡ i + upTo 10 (drop i t) →
     linesAt t (areaAt t i e above) ≡ regionAt (part i e t) (linesOf (drop (min (e + 1) (length t)) t)) (linesAt t above)

@@ -19,16 +19,10 @@ use Rattle.once.specs.Scratch.{liveBelow}
 use Rattle.once.specs.Once.{none, read, write, deadBy, laterRead}
 use Rattle.once.specs.Inner.Tables.{nextIn}
 use Rattle.slots.specs.Inner.Slots.{slotOf, entryOf}
-use Rattle.once.specs.Inner.Noted.{firstBy, readFrom, storeFrom, headFrom, farFrom, Known, samePath, noteBy, storeNote, lineNote, readNext, sentTo, maySend, DropIs, SendIs, NoteIs}
-
-pub first-le : (f : List ℕ → Bool) (ls : List (List ℕ)) → firstBy f ls ≤ length ls
-unfolding firstBy
-first-le f [] = omega arith
-first-le f (l ∷ ls) = go (first-le f ls) (f l)
-  where
-    go : firstBy f ls ≤ length ls → (b : Bool) → cond b (suc (length ls)) (firstBy f ls) ≤ suc (length ls)
-    go h true = omega arith
-    go h false = omega arith
+use Rattle.slots.proofs.SlotLaws.{Placed}
+use Rattle.decls.specs.Inner.Firsts.{firstBy, readFrom, storeFrom, headFrom}
+use Rattle.decls.proofs.SeenLaws.{first-le}
+use Rattle.once.specs.Inner.Noted.{farFrom, samePath, noteBy, storeNote, lineNote, readNext, sentTo, maySend, DropIs, SendIs, NoteIs}
 
 above : (r s : ℕ) → r ≤ s → (s ≡ r → ⊥) → r < s
 above r s h n = go (ltb r s) refl
@@ -316,9 +310,9 @@ pub record Nexts (own : List ℕ) (ls : List (List ℕ)) (h : ℕ) (near far sto
   pub wide : length far ≡ length near
   pub tall : length far ≡ length stores
   pub head : h ≡ headFrom ls
-  pub reads : (v : ℕ) → Known own near v → entryOf own v near ≡ readFrom v ls
-  pub again : (v : ℕ) → Known own near v → storeFrom v ls < readFrom v ls → entryOf own v far ≡ farFrom v ls
-  pub stored : (v : ℕ) → Known own near v → entryOf own v stores ≡ storeFrom v ls
+  pub reads : (v : ℕ) → Placed own v near → entryOf own v near ≡ readFrom v ls
+  pub again : (v : ℕ) → Placed own v near → storeFrom v ls < readFrom v ls → entryOf own v far ≡ farFrom v ls
+  pub stored : (v : ℕ) → Placed own v near → entryOf own v stores ≡ storeFrom v ls
 
 module _ (own l : List ℕ) (ls : List (List ℕ)) (ps : List ℕ) (k h : ℕ) (near far stores : List ℕ) (t : Nexts own ls h near far stores) (n : k + 1 + length ls ≡ length ps) where
   same-as : (v : ℕ) → headFrom ls < storeFrom v ls → samePath ps k (storeFrom v ls) ≡ eqb (getD ps k 0) (getD (drop (k + 1) ps) (length ls - storeFrom v ls) 0)
@@ -327,7 +321,7 @@ module _ (own l : List ℕ) (ls : List (List ℕ)) (ps : List ℕ) (k h : ℕ) (
       let i : k + 1 + (length ls - storeFrom v ls) ≡ length ps - storeFrom v ls = omega arith in
       rw (le-ltb (length ps) (storeFrom v ls) (omega arith), getD-drop (k + 1) ps (length ls - storeFrom v ls) 0, i)
 
-  note-as : (v : ℕ) → Known own near v → noteBy (entryOf own v near) (entryOf own v far) (entryOf own v stores) h (length ls) (samePath ps k (entryOf own v stores))
+  note-as : (v : ℕ) → Placed own v near → noteBy (entryOf own v near) (entryOf own v far) (entryOf own v stores) h (length ls) (samePath ps k (entryOf own v stores))
       ≡ noteBy (readFrom v ls) (farFrom v ls) (storeFrom v ls) (headFrom ls) (length ls) (samePath ps k (storeFrom v ls))
   note-as v x =
       rw (t .reads v x, t .stored v x, t .head)
@@ -369,7 +363,7 @@ module _ (own l : List ℕ) (ls : List (List ℕ)) (ps : List ℕ) (k h : ℕ) (
 
   -- a store whose value may go into the next line: that one reads it
   pub line-may : (s : Store) (m : ℕ) → m ≡ lineNote own (line.Store s) ps k (length ls) h near far stores → maySend m ≡ true →
-      Known own near (s .reg .0) × ((headFrom ls < length ls) × ((readFrom (s .reg .0) ls ≡ length ls) × (m ≡ cond (ltb (headFrom ls) (farFrom (s .reg .0) ls)) 4 7)))
+      Placed own (s .reg .0) near × ((headFrom ls < length ls) × ((readFrom (s .reg .0) ls ≡ length ls) × (m ≡ cond (ltb (headFrom ls) (farFrom (s .reg .0) ls)) 4 7)))
   line-may s m q z = go (ltb (slotOf (length near) own v) (length near)) refl q
     where
       v : ℕ
@@ -377,7 +371,7 @@ module _ (own l : List ℕ) (ls : List (List ℕ)) (ps : List ℕ) (k h : ℕ) (
 
       go : (a : Bool) → ltb (slotOf (length near) own v) (length near) ≡ a →
           m ≡ cond a (noteBy (entryOf own v near) (entryOf own v far) (entryOf own v stores) h (length ls) (samePath ps k (entryOf own v stores))) 0 →
-          Known own near v × ((headFrom ls < length ls) × ((readFrom v ls ≡ length ls) × (m ≡ cond (ltb (headFrom ls) (farFrom v ls)) 4 7)))
+          Placed own v near × ((headFrom ls < length ls) × ((readFrom v ls ≡ length ls) × (m ≡ cond (ltb (headFrom ls) (farFrom v ls)) 4 7)))
       go false x e = no (sym (ap maySend e) ∙ z)
       go true x e =
           let i = ltb-true (slotOf (length near) own v) (length near) x in

@@ -11,8 +11,6 @@ use lib.Seq.{drop-drop, getD-set-same, getD-set-other}
 use Rattle.lines.specs.Lf.{part, endsIn, linesOf}
 use Rattle.lines.specs.Inner.Lf.{lineStart}
 use Rattle.lines.proofs.Tests.{no, and-false, and-left, and-right, and-both}
-use Rattle.lines.specs.Inner.Out.{Wrote}
-use Rattle.lines.proofs.OutLaws.{wrote-whole}
 use Rattle.lines.proofs.LfLaws.{lines-end}
 use Rattle.names.specs.Names.{regOf, regIs}
 use Rattle.names.specs.declared.RegName.{RegName}
@@ -29,40 +27,31 @@ use Rattle.place.specs.Region.{isHeader, region}
 use Rattle.reading.specs.Uses.{lineReads, storesBy, lineStores}
 use Rattle.decls.specs.Inner.Seen.{markName, markStore, AtMost}
 use Rattle.slots.specs.Inner.Slots.{slotOf, entryOf, withEntry}
-use Rattle.slots.proofs.SlotLaws.{entry-length, entry-same, entry-other}
-use Rattle.decls.proofs.SeenLaws.{set-past, name-length}
+use Rattle.slots.proofs.SlotLaws.{Placed, slot-kept, entry-length, entry-after, zeros-long}
+use Rattle.decls.specs.Inner.Firsts.{firstBy, readFrom, storeFrom, headFrom}
+use Rattle.decls.proofs.SeenLaws.{set-past, name-length, store-length, store-entry, first-le}
 use Rattle.once.specs.Once.{readCount}
-use Rattle.once.specs.Inner.Noted.{firstBy, readFrom, storeFrom, headFrom, farFrom, Known, farName, aloneIn, aloneStore, takeBack, backBy, backName, Reads, readName, readRuns, areaOf, Begins, StartOf, lineNote, maySend, NoteIs, firstLine, NotesOf, OneOf}
-use Rattle.once.proofs.NextLaws.{first-le, Nexts, note-is, line-may, note-nothing, note-less}
+use Rattle.once.specs.Inner.Noted.{farFrom, farName, aloneIn, aloneStore, takeBack, backBy, backName, Reads, readName, readRuns, areaOf, Begins, StartOf, lineNote, maySend, NoteIs, firstLine, NotesOf, OneOf}
+use Rattle.once.proofs.NextLaws.{Nexts, note-is, line-may, note-nothing, note-less}
 use Rattle.once.proofs.AreaLaws.{read-some, next-count, CountUp, upward, up-new, up-on, up-done}
 use Rattle.once.proofs.BackLaws.{begins-lf, rows-back, line-back, start-of}
 
 -- ---- what stands at a register that has a place
 
-known-as : (own d f : List ℕ) (v : ℕ) → length f ≡ length d → Known own d v → Known own f v
-known-as own d f v e k = subst (λ (n : ℕ). slotOf n own v < n) (sym e) k
-
-known-some : (own d : List ℕ) (v : ℕ) → 0 < entryOf own v d → Known own d v
+known-some : (own d : List ℕ) (v : ℕ) → 0 < entryOf own v d → Placed own v d
 known-some own d v h = go (ltb (slotOf (length d) own v) (length d)) refl
   where
-    go : (b : Bool) → ltb (slotOf (length d) own v) (length d) ≡ b → Known own d v
+    go : (b : Bool) → ltb (slotOf (length d) own v) (length d) ≡ b → Placed own v d
     go true e = ltb-true (slotOf (length d) own v) (length d) e
     go false e = let z = List·getD-eq-default d 0 (ltb-false (slotOf (length d) own v) (length d) e) in absurd (omega arith)
 
-entry-put : (own d : List ℕ) (u x v : ℕ) → Known own d v → entryOf own v (withEntry own u x d) ≡ cond (eqb u v) x (entryOf own v d)
-entry-put own d u x v h = go (eqb u v) refl
-  where
-    go : (b : Bool) → eqb u v ≡ b → entryOf own v (withEntry own u x d) ≡ cond b x (entryOf own v d)
-    go true e = ap (λ (n : ℕ). entryOf own v (withEntry own n x d)) (eqb-true u v e) ∙ entry-same own d v x h
-    go false e = entry-other own d u x v h (eqb-false u v e)
-
-name-near : (own : List ℕ) (m v : ℕ) (r : RegName) (d : List ℕ) → Known own d v → entryOf own v (markName own m r d) ≡ cond (regIs v r) m (entryOf own v d)
+name-near : (own : List ℕ) (m v : ℕ) (r : RegName) (d : List ℕ) → Placed own v d → entryOf own v (markName own m r d) ≡ cond (regIs v r) m (entryOf own v d)
 name-near own m v name.None d h = refl
-name-near own m v (name.Reg q) d h = entry-put own d (q .0) m v h
+name-near own m v (name.Reg q) d h = entry-after own d (q .0) m v h
 
-name-far : (own : List ℕ) (v : ℕ) (r : RegName) (n f : List ℕ) → Known own f v → entryOf own v (farName own r n f) ≡ cond (regIs v r) (entryOf own v n) (entryOf own v f)
+name-far : (own : List ℕ) (v : ℕ) (r : RegName) (n f : List ℕ) → Placed own v f → entryOf own v (farName own r n f) ≡ cond (regIs v r) (entryOf own v n) (entryOf own v f)
 name-far own v name.None n f h = refl
-name-far own v (name.Reg q) n f h = entry-put own f (q .0) (entryOf own (q .0) n) v h ∙ go (eqb (q .0) v) refl
+name-far own v (name.Reg q) n f h = entry-after own f (q .0) (entryOf own (q .0) n) v h ∙ go (eqb (q .0) v) refl
   where
     go : (b : Bool) → eqb (q .0) v ≡ b → cond b (entryOf own (q .0) n) (entryOf own v f) ≡ cond b (entryOf own v n) (entryOf own v f)
     go true e = ap (λ (i : ℕ). entryOf own i n) (eqb-true (q .0) v e)
@@ -94,11 +83,11 @@ both true x = refl
 both false x = refl
 
 module _ (own : List ℕ) (c h m v : ℕ) where
-  near-runs : (rs : List (List ℕ)) (d : Reads) → Known own (d .0) v → entryOf own v (readRuns own c h m rs d .0) ≡ cond (ltb 0 (named v rs)) m (entryOf own v (d .0))
+  near-runs : (rs : List (List ℕ)) (d : Reads) → Placed own v (d .0) → entryOf own v (readRuns own c h m rs d .0) ≡ cond (ltb 0 (named v rs)) m (entryOf own v (d .0))
   unfolding readRuns countBy named
   near-runs [] d k = refl
   near-runs (r ∷ rs) d k =
-      near-runs rs (readName own c h m (regOf r) d) (known-as own (d .0) (markName own m (regOf r) (d .0)) v (name-length own m (regOf r) (d .0)) k)
+      near-runs rs (readName own c h m (regOf r) d) (slot-kept own (d .0) (markName own m (regOf r) (d .0)) v (name-length own m (regOf r) (d .0)) k)
       ∙ ap (cond (ltb 0 (named v rs)) m) (name-near own m v (regOf r) (d .0) k)
       ∙ go (regIs v (regOf r)) (named v rs)
     where
@@ -106,12 +95,12 @@ module _ (own : List ℕ) (c h m v : ℕ) where
       go true n = let z : 0 < suc n = omega arith in both (ltb 0 n) m ∙ sym (ap (λ (b : Bool). cond b m (entryOf own v (d .0))) (lt-ltb 0 (suc n) z))
       go false n = refl
 
-  far-runs : (rs : List (List ℕ)) (d : Reads) → Known own (d .0) v → Known own (d .1 .0) v →
+  far-runs : (rs : List (List ℕ)) (d : Reads) → Placed own v (d .0) → Placed own v (d .1 .0) →
       entryOf own v (readRuns own c h m rs d .1 .0) ≡ cond (ltb 0 (named v rs)) (cond (ltb 1 (named v rs)) m (entryOf own v (d .0))) (entryOf own v (d .1 .0))
   unfolding readRuns countBy named
   far-runs [] d k j = refl
   far-runs (r ∷ rs) d k j =
-      far-runs rs (readName own c h m (regOf r) d) (known-as own (d .0) (markName own m (regOf r) (d .0)) v (name-length own m (regOf r) (d .0)) k) (known-as own (d .1 .0) (farName own (regOf r) (d .0) (d .1 .0)) v (far-length own (regOf r) (d .0) (d .1 .0)) j)
+      far-runs rs (readName own c h m (regOf r) d) (slot-kept own (d .0) (markName own m (regOf r) (d .0)) v (name-length own m (regOf r) (d .0)) k) (slot-kept own (d .1 .0) (farName own (regOf r) (d .0) (d .1 .0)) v (far-length own (regOf r) (d .0) (d .1 .0)) j)
       ∙ rw (name-near own m v (regOf r) (d .0) k, name-far own v (regOf r) (d .0) (d .1 .0) j) (go (regIs v (regOf r)) (named v rs))
     where
       go : (b : Bool) (n : ℕ) →
@@ -129,22 +118,12 @@ runs-lengths own c h m (r ∷ rs) d =
     let e = runs-lengths own c h m rs (readName own c h m (regOf r) d) in
     (e .0 ∙ name-length own m (regOf r) (d .0), (e .1 .0 ∙ far-length own (regOf r) (d .0) (d .1 .0), e .1 .1 ∙ notes-length own c h (regOf r) (d .0) (d .1 .0) (d .1 .1)))
 
-store-near : (own : List ℕ) (m v : ℕ) (p : Line) (d : List ℕ) → Known own d v → entryOf own v (markStore own m p d) ≡ cond (storesBy v p) m (entryOf own v d)
-store-near own m v line.Decl d h = refl
-store-near own m v (line.Store s) d h = entry-put own d (s .reg .0) m v h
-store-near own m v line.Other d h = refl
-
-pub store-length : (own : List ℕ) (m : ℕ) (p : Line) (d : List ℕ) → length (markStore own m p d) ≡ length d
-store-length own m line.Decl d = refl
-store-length own m (line.Store s) d = entry-length own d (s .reg .0) m
-store-length own m line.Other d = refl
-
-alone-near : (own : List ℕ) (m x v : ℕ) (p : Line) (d : List ℕ) → Known own d v → entryOf own v (aloneStore own m x p d) ≡ cond (eqb x 7 && storesBy v p) m (entryOf own v d)
+alone-near : (own : List ℕ) (m x v : ℕ) (p : Line) (d : List ℕ) → Placed own v d → entryOf own v (aloneStore own m x p d) ≡ cond (eqb x 7 && storesBy v p) m (entryOf own v d)
 alone-near own m x v line.Decl d h = sym (ap (λ (b : Bool). cond b m (entryOf own v d)) (and-false (eqb x 7)))
 alone-near own m x v (line.Store s) d h = go (eqb x 7)
   where
     go : (b : Bool) → entryOf own v (cond b (withEntry own (s .reg .0) m d) d) ≡ cond (b && eqb (s .reg .0) v) m (entryOf own v d)
-    go true = entry-put own d (s .reg .0) m v h
+    go true = entry-after own d (s .reg .0) m v h
     go false = refl
 alone-near own m x v line.Other d h = sym (ap (λ (b : Bool). cond b m (entryOf own v d)) (and-false (eqb x 7)))
 
@@ -186,21 +165,21 @@ module _ (own : List ℕ) (c : ℕ) (l : List ℕ) (ls : List (List ℕ)) (p : L
   unfolding lineReads named
   reads-as v = ap (λ (q : Line). readsOf v (textOf l q)) e
 
-  near-at : (v : ℕ) → Known own near v → entryOf own v near′ ≡ cond (ltb 0 (lineReads v l)) m (entryOf own v near)
+  near-at : (v : ℕ) → Placed own v near → entryOf own v near′ ≡ cond (ltb 0 (lineReads v l)) m (entryOf own v near)
   near-at v k =
       ap (λ (d : Reads). entryOf own v (d .0)) y ∙ near-runs own c h m v (runs (textOf l p)) (near, (aloneStore own m x p far, notes)) k
       ∙ ap (λ (n : ℕ). cond (ltb 0 n) m (entryOf own v near)) (reads-as v)
 
-  far-at : (v : ℕ) → Known own near v → entryOf own v far′ ≡ cond (ltb 0 (lineReads v l)) (cond (ltb 1 (lineReads v l)) m (entryOf own v near)) (entryOf own v (aloneStore own m x p far))
+  far-at : (v : ℕ) → Placed own v near → entryOf own v far′ ≡ cond (ltb 0 (lineReads v l)) (cond (ltb 1 (lineReads v l)) m (entryOf own v near)) (entryOf own v (aloneStore own m x p far))
   far-at v k =
       ap (λ (d : Reads). entryOf own v (d .1 .0)) y
-      ∙ far-runs own c h m v (runs (textOf l p)) (near, (aloneStore own m x p far, notes)) k (known-as own near (aloneStore own m x p far) v (alone-length own m x p far ∙ w) k)
+      ∙ far-runs own c h m v (runs (textOf l p)) (near, (aloneStore own m x p far, notes)) k (slot-kept own near (aloneStore own m x p far) v (alone-length own m x p far ∙ w) k)
       ∙ ap (λ (n : ℕ). cond (ltb 0 n) (cond (ltb 1 n) m (entryOf own v near)) (entryOf own v (aloneStore own m x p far))) (reads-as v)
 
-  alone-at : (v : ℕ) → Known own near v → (b : Bool) → eqb x 7 && lineStores v l ≡ b → entryOf own v (aloneStore own m x p far) ≡ cond b m (entryOf own v far)
+  alone-at : (v : ℕ) → Placed own v near → (b : Bool) → eqb x 7 && lineStores v l ≡ b → entryOf own v (aloneStore own m x p far) ≡ cond b m (entryOf own v far)
   unfolding lineStores
   alone-at v k b z =
-      alone-near own m x v p far (known-as own near far v w k)
+      alone-near own m x v p far (slot-kept own near far v w k)
       ∙ ap (λ (t : Bool). cond t m (entryOf own v far)) (ap (λ (q : Line). eqb x 7 && storesBy v q) e ∙ z)
 
   nexts-on : (stores′ : List ℕ) (h′ : ℕ) → m ≡ suc (length ls) → stores′ ≡ markStore own m p stores → h′ ≡ cond (isHeader l) m h → Nexts own ls h near far stores → Nexts own (l ∷ ls) h′ near′ far′ stores′
@@ -209,17 +188,17 @@ module _ (own : List ℕ) (c : ℕ) (l : List ℕ) (ls : List (List ℕ)) (p : L
     wide = lf ∙ w ∙ sym ln;
     tall = lf ∙ t .tall ∙ sym lst;
     head = u ∙ ap (λ (n : ℕ). cond (isHeader l) n h) q ∙ ap (cond (isHeader l) (suc (length ls))) (t .head);
-    reads = λ v k. let k′ = known-as own near′ near v (sym ln) k in near-at v k′ ∙ rw (t .reads v k′, q);
-    again = λ v k j. let k′ = known-as own near′ near v (sym ln) k in far-at v k′ ∙ go v k′ (ltb 0 (lineReads v l)) (lineStores v l) refl j;
+    reads = λ v k. let k′ = slot-kept own near′ near v (sym ln) k in near-at v k′ ∙ rw (t .reads v k′, q);
+    again = λ v k j. let k′ = slot-kept own near′ near v (sym ln) k in far-at v k′ ∙ go v k′ (ltb 0 (lineReads v l)) (lineStores v l) refl j;
     stored = λ v k.
-        let k′ = known-as own near′ near v (sym ln) k in
-        ap (λ (d : List ℕ). entryOf own v d) z ∙ store-near own m v p stores (known-as own near stores v (sym (t .tall) ∙ w) k′) ∙ rw (t .stored v k′, e, q);
+        let k′ = slot-kept own near′ near v (sym ln) k in
+        ap (λ (d : List ℕ). entryOf own v d) z ∙ store-entry own m v p stores (slot-kept own near stores v (sym (t .tall) ∙ w) k′) ∙ rw (t .stored v k′, e, q);
   }
     where
       lst : length stores′ ≡ length stores
       lst = ap (λ (d : List ℕ). length d) z ∙ store-length own m p stores
 
-      go : (v : ℕ) → Known own near v → (a b : Bool) → lineStores v l ≡ b → cond b (suc (length ls)) (storeFrom v ls) < cond a (suc (length ls)) (readFrom v ls) →
+      go : (v : ℕ) → Placed own v near → (a b : Bool) → lineStores v l ≡ b → cond b (suc (length ls)) (storeFrom v ls) < cond a (suc (length ls)) (readFrom v ls) →
           cond a (cond (ltb 1 (lineReads v l)) m (entryOf own v near)) (entryOf own v (aloneStore own m x p far)) ≡ cond a (cond (ltb 1 (lineReads v l)) (suc (length ls)) (readFrom v ls)) (farFrom v ls)
       go v k true b i j = rw (t .reads v k, q)
       go v k false true i j = let n = first-le (λ (l : List ℕ). ltb 0 (lineReads v l)) ls in absurd (omega arith)
@@ -315,12 +294,12 @@ module _ (own : List ℕ) (c h r k : ℕ) (a : h < r) (z : k + suc r ≡ c) wher
       let y : entryOf own (u .0) f ≡ suc r = ap (λ (j : ℕ). entryOf own j f) (eqb-true (u .0) v i) ∙ g in
       back-takes d (ap (λ (j : ℕ). getD (backBy c h r j d) k 0) (sym y) ∙ ap (λ (j : ℕ). getD (backBy c h j (entryOf own (u .0) f) d) k 0) (sym x) ∙ q)
 
-  runs-take : (m v : ℕ) (rs : List (List ℕ)) (d : Reads) → Known own (d .0) v → Known own (d .1 .0) v → entryOf own v (d .0) ≡ r → entryOf own v (d .1 .0) ≡ suc r → 0 < named v rs →
+  runs-take : (m v : ℕ) (rs : List (List ℕ)) (d : Reads) → Placed own v (d .0) → Placed own v (d .1 .0) → entryOf own v (d .0) ≡ r → entryOf own v (d .1 .0) ≡ suc r → 0 < named v rs →
       getD (readRuns own c h m rs d .1 .1) k 0 ≡ 7 → ⊥
   unfolding readRuns countBy named
   runs-take m v [] d l l′ e g j q = omega arith
   runs-take m v (w ∷ rs) d l l′ e g j q =
-      go (λ i y. runs-take m v rs (readName own c h m (regOf w) d) (known-as own (d .0) (markName own m (regOf w) (d .0)) v (name-length own m (regOf w) (d .0)) l) (known-as own (d .1 .0) (farName own (regOf w) (d .0) (d .1 .0)) v (far-length own (regOf w) (d .0) (d .1 .0)) l′)
+      go (λ i y. runs-take m v rs (readName own c h m (regOf w) d) (slot-kept own (d .0) (markName own m (regOf w) (d .0)) v (name-length own m (regOf w) (d .0)) l) (slot-kept own (d .1 .0) (farName own (regOf w) (d .0) (d .1 .0)) v (far-length own (regOf w) (d .0) (d .1 .0)) l′)
       (name-near own m v (regOf w) (d .0) l ∙ ap (λ (b : Bool). cond b m (entryOf own v (d .0))) i ∙ e)
       (name-far own v (regOf w) (d .0) (d .1 .0) l′ ∙ ap (λ (b : Bool). cond b (entryOf own v (d .0)) (entryOf own v (d .1 .0))) i ∙ g) y q)
       (regIs v (regOf w)) refl j
@@ -332,7 +311,7 @@ module _ (own : List ℕ) (c h r k : ℕ) (a : h < r) (z : k + suc r ≡ c) wher
 -- a 4 stood before the reads of a line, or one of them put it there
 data Took (own : List ℕ) (c h k : ℕ) (rs : List (List ℕ)) (d : Reads) : Type 0 where
   stood : getD (d .1 .1) k 0 ≡ 4 → Took own c h k rs d
-  took : (v : ℕ) → Known own (d .0) v → 0 < named v rs → h < entryOf own v (d .0) → entryOf own v (d .0) < entryOf own v (d .1 .0) → k + entryOf own v (d .1 .0) ≡ c → Took own c h k rs d
+  took : (v : ℕ) → Placed own v (d .0) → 0 < named v rs → h < entryOf own v (d .0) → entryOf own v (d .0) < entryOf own v (d .1 .0) → k + entryOf own v (d .1 .0) ≡ c → Took own c h k rs d
 
 module _ (own : List ℕ) (c h k : ℕ) where
   name-took : {A : Type 0} (w : RegName) (n f d : List ℕ) → getD (backName own c h w n f d) k 0 ≡ 4 → (getD d k 0 ≡ 4 → A) →
@@ -362,7 +341,7 @@ module _ (own : List ℕ) (c h k : ℕ) where
       go true x false y false o = s o
       go false x b y e o = s o
 
-  runs-took : (m : ℕ) (rs : List (List ℕ)) (d : Reads) → length (d .1 .0) ≡ length (d .0) → ((v : ℕ) → Known own (d .0) v → entryOf own v (d .0) ≤ m) →
+  runs-took : (m : ℕ) (rs : List (List ℕ)) (d : Reads) → length (d .1 .0) ≡ length (d .0) → ((v : ℕ) → Placed own v (d .0) → entryOf own v (d .0) ≤ m) →
       getD (readRuns own c h m rs d .1 .1) k 0 ≡ 4 → Took own c h k rs d
   unfolding readRuns countBy named
   runs-took m [] d l b q = stood q
@@ -376,29 +355,29 @@ module _ (own : List ℕ) (c h k : ℕ) where
       less v true h = omega arith
       less v false h = h
 
-      most : (v : ℕ) → Known own (markName own m (regOf r) (d .0)) v → entryOf own v (markName own m (regOf r) (d .0)) ≤ m
+      most : (v : ℕ) → Placed own v (markName own m (regOf r) (d .0)) → entryOf own v (markName own m (regOf r) (d .0)) ≤ m
       most v i =
-          let j = known-as own (markName own m (regOf r) (d .0)) (d .0) v (sym ln) i in
+          let j = slot-kept own (markName own m (regOf r) (d .0)) (d .0) v (sym ln) i in
           let e = name-near own m v (regOf r) (d .0) j in
           omega (arith, e, less v (regIs v (regOf r)) (b v j))
 
-      at : (v : ℕ) → Known own (d .0) v → 0 < named v rs → h < entryOf own v (markName own m (regOf r) (d .0)) →
+      at : (v : ℕ) → Placed own v (d .0) → 0 < named v rs → h < entryOf own v (markName own m (regOf r) (d .0)) →
           entryOf own v (markName own m (regOf r) (d .0)) < entryOf own v (farName own (regOf r) (d .0) (d .1 .0)) → k + entryOf own v (farName own (regOf r) (d .0) (d .1 .0)) ≡ c →
           (t : Bool) → regIs v (regOf r) ≡ t → Took own c h k (r ∷ rs) d
       at v i j x y z true e =
           let n = name-near own m v (regOf r) (d .0) i ∙ ap (λ (t : Bool). cond t m (entryOf own v (d .0))) e in
-          let f = name-far own v (regOf r) (d .0) (d .1 .0) (known-as own (d .0) (d .1 .0) v l i) ∙ ap (λ (t : Bool). cond t (entryOf own v (d .0)) (entryOf own v (d .1 .0))) e in
+          let f = name-far own v (regOf r) (d .0) (d .1 .0) (slot-kept own (d .0) (d .1 .0) v l i) ∙ ap (λ (t : Bool). cond t (entryOf own v (d .0)) (entryOf own v (d .1 .0))) e in
           absurd (omega (arith, n, f, y, b v i))
       at v i j x y z false e =
           let n = name-near own m v (regOf r) (d .0) i ∙ ap (λ (t : Bool). cond t m (entryOf own v (d .0))) e in
-          let f = name-far own v (regOf r) (d .0) (d .1 .0) (known-as own (d .0) (d .1 .0) v l i) ∙ ap (λ (t : Bool). cond t (entryOf own v (d .0)) (entryOf own v (d .1 .0))) e in
+          let f = name-far own v (regOf r) (d .0) (d .1 .0) (slot-kept own (d .0) (d .1 .0) v l i) ∙ ap (λ (t : Bool). cond t (entryOf own v (d .0)) (entryOf own v (d .1 .0))) e in
           took v i (rw e j) (omega (arith, n, x)) (omega (arith, n, f, y)) (omega (arith, f, z))
 
       go : Took own c h k rs (readName own c h m (regOf r) d) → Took own c h k (r ∷ rs) d
       go (stood o) =
           name-took (regOf r) (d .0) (d .1 .0) (d .1 .1) o stood
           (λ v i x y z. took v (known-some own (d .0) v (omega arith)) (let n : 0 < suc (named v rs) = omega arith in rw i n) x y z)
-      go (took v i j x y z) = at v (known-as own (markName own m (regOf r) (d .0)) (d .0) v (sym ln) i) j x y z (regIs v (regOf r)) refl
+      go (took v i j x y z) = at v (slot-kept own (markName own m (regOf r) (d .0)) (d .0) v (sym ln) i) j x y z (regIs v (regOf r)) refl
 
 -- ---- the values that the notes say are read once, or more often, by the lines us at the end of the lines ls
 
@@ -407,7 +386,7 @@ pub record OneRow (own : List ℕ) (ls us : List (List ℕ)) (near far : List �
   pub next : ℕ
   pub row : k + suc next ≡ length ls
   pub among : next ≤ length us
-  pub known : Known own near v
+  pub known : Placed own v near
   pub first : headFrom us < next → readFrom v us ≡ next
   pub mine : headFrom us < next → entryOf own v far ≡ suc next
   pub up : CountUp (λ (n : ℕ). n ≡ 1) v next us
@@ -422,7 +401,7 @@ pub record MoreRow (ls us : List (List ℕ)) (k v : ℕ) : Type 0 where
 pub record Ones (own : List ℕ) (ls us : List (List ℕ)) (near far d : List ℕ) : Type 0 where
   pub alone : (k : ℕ) (s : Store) → parseOf (firstLine (drop k ls)) ≡ line.Store s → getD d k 0 ≡ 7 → OneRow own ls us near far k (s .reg .0)
   pub more : (k : ℕ) (s : Store) → parseOf (firstLine (drop k ls)) ≡ line.Store s → getD d k 0 ≡ 4 → MoreRow ls us k (s .reg .0)
-  pub marked : (v : ℕ) → Known own near v → entryOf own v near < entryOf own v far →
+  pub marked : (v : ℕ) → Placed own v near → entryOf own v near < entryOf own v far →
       (entryOf own v far ≤ suc (length us)) × (lineStores v (firstLine (drop (length ls - entryOf own v far) ls)) ≡ true)
 
 ones-none : (own : List ℕ) (ls us : List (List ℕ)) (near far d : List ℕ) → AtMost 0 far → AtMost 0 d → Ones own ls us near far d
@@ -478,7 +457,7 @@ module _ (own : List ℕ) (ls : List (List ℕ)) (l : List ℕ) (us : List (List
 
   -- the line's own note
   own-may : (s : Store) → parseOf l ≡ line.Store s → maySend x ≡ true →
-      Known own near (s .reg .0) × ((headFrom us < length us) × ((readFrom (s .reg .0) us ≡ length us) × (x ≡ cond (ltb (headFrom us) (farFrom (s .reg .0) us)) 4 7)))
+      Placed own (s .reg .0) near × ((headFrom us < length us) × ((readFrom (s .reg .0) us ≡ length us) × (x ≡ cond (ltb (headFrom us) (farFrom (s .reg .0) us)) 4 7)))
   own-may s i z = line-may own l us ps j h near far stores t n s x (u ∙ ap (λ (k : Line). lineNote own k ps j (length us) h near far stores) (e ∙ i)) z
 
   far-one : (v : ℕ) → x ≡ 7 → x ≡ cond (ltb (headFrom us) (farFrom v us)) 4 7 → farFrom v us ≤ headFrom us
@@ -495,10 +474,10 @@ module _ (own : List ℕ) (ls : List (List ℕ)) (l : List ℕ) (us : List (List
       go true y w = ltb-true (headFrom us) (farFrom v us) y
       go false y w = absurd (omega arith)
 
-  far-put : (v : ℕ) → Known own near v → (b : Bool) → eqb x 7 && lineStores v l ≡ b → entryOf own v far₁ ≡ cond b m (entryOf own v far)
+  far-put : (v : ℕ) → Placed own v near → (b : Bool) → eqb x 7 && lineStores v l ≡ b → entryOf own v far₁ ≡ cond b m (entryOf own v far)
   unfolding lineStores
   far-put v k b z =
-      alone-near own m x v p far (known-as own near far v (t .wide) k)
+      alone-near own m x v p far (slot-kept own near far v (t .wide) k)
       ∙ ap (λ (w : Bool). cond w m (entryOf own v far)) (ap (λ (q : Line). eqb x 7 && storesBy v q) e ∙ z)
 
   at-line : (k : ℕ) → k ≡ j → parseOf (firstLine (drop k ls)) ≡ parseOf l
@@ -564,7 +543,7 @@ module _ (own : List ℕ) (ls : List (List ℕ)) (l : List ℕ) (us : List (List
           (own-two s (sym (at-line k z) ∙ i) (set-is notes j x 4 (omega arith) (ap (λ (c : ℕ). getD (set notes j x) c 0) (sym z) ∙ q)))
       go-two k s i q false y = o .more k s i (sym (getD-set-other notes j k x 0 (eqb-false k j y)) ∙ q)
 
-      go-mark : (v : ℕ) → Known own near v → (b : Bool) → eqb x 7 && lineStores v l ≡ b → entryOf own v near < entryOf own v far₁ →
+      go-mark : (v : ℕ) → Placed own v near → (b : Bool) → eqb x 7 && lineStores v l ≡ b → entryOf own v near < entryOf own v far₁ →
           (entryOf own v far₁ ≤ suc (length us)) × (lineStores v (firstLine (drop (length ls - entryOf own v far₁) ls)) ≡ true)
       go-mark v k true y z =
           let f = far-put v k true y in
@@ -577,10 +556,10 @@ module _ (own : List ℕ) (ls : List (List ℕ)) (l : List ℕ) (us : List (List
     notes-at : (k n : ℕ) → getD notes′ k 0 ≡ n → getD (readRuns own (length ps) h m (runs (textOf l p)) (near, (far₁, set notes j x)) .1 .1) k 0 ≡ n
     notes-at k n q = ap (λ (b : Reads). getD (b .1 .1) k 0) (sym y) ∙ q
 
-    near-is : (v : ℕ) → Known own near v → entryOf own v near′ ≡ cond (ltb 0 (lineReads v l)) m (entryOf own v near)
+    near-is : (v : ℕ) → Placed own v near → entryOf own v near′ ≡ cond (ltb 0 (lineReads v l)) m (entryOf own v near)
     near-is v k = near-at own (length ps) l us p x h m near far stores (set notes j x) near′ far′ notes′ e y (t .wide) v k
 
-    far-is : (v : ℕ) → Known own near v → entryOf own v far′ ≡ cond (ltb 0 (lineReads v l)) (cond (ltb 1 (lineReads v l)) m (entryOf own v near)) (entryOf own v far₁)
+    far-is : (v : ℕ) → Placed own v near → entryOf own v far′ ≡ cond (ltb 0 (lineReads v l)) (cond (ltb 1 (lineReads v l)) m (entryOf own v near)) (entryOf own v far₁)
     far-is v k = far-at own (length ps) l us p x h m near far stores (set notes j x) near′ far′ notes′ e y (t .wide) v k
 
     near-len : length near′ ≡ length near
@@ -589,8 +568,8 @@ module _ (own : List ℕ) (ls : List (List ℕ)) (l : List ℕ) (us : List (List
     reads-is : (v : ℕ) → named v (runs (textOf l p)) ≡ lineReads v l
     reads-is v = reads-as own (length ps) l us p x h m near far stores (set notes j x) near′ far′ notes′ e y (t .wide) v
 
-    far-known : (v : ℕ) → Known own near v → Known own far₁ v
-    far-known v k = known-as own near far₁ v (alone-length own m x p far ∙ t .wide) k
+    far-known : (v : ℕ) → Placed own v near → Placed own v far₁
+    far-known v k = slot-kept own near far₁ v (alone-length own m x p far ∙ t .wide) k
 
     -- a value that is still read once is not read by the line
     silent : (k v : ℕ) (r : OneRow own ls us near far₁ k v) → getD notes′ k 0 ≡ 7 → headFrom us < r .next → (b : Bool) → ltb 0 (lineReads v l) ≡ b → b ≡ false
@@ -616,7 +595,7 @@ module _ (own : List ℕ) (ls : List (List ℕ)) (l : List ℕ) (us : List (List
       next = r .next;
       row = r .row;
       among = omega (arith, r .among);
-      known = known-as own near near′ v near-len (r .known);
+      known = slot-kept own near near′ v near-len (r .known);
       first = λ a.
           let b = header-off (r .next) (r .among) a in
           ap (λ (t : Bool). cond t (suc (length us)) (readFrom v us)) (silent k v r q b (ltb 0 (lineReads v l)) refl) ∙ r .first b;
@@ -646,7 +625,7 @@ module _ (own : List ℕ) (ls : List (List ℕ)) (l : List ℕ) (us : List (List
           up = up-new (λ (n : ℕ). 2 ≤ n) v (entryOf own v far₁ - 1) l us (omega (arith, w .0)) (omega (arith, a, b, hd)) (omega (arith, some, rs, nm));
         })
 
-    mark-row : (v : ℕ) → Known own near v → (b : Bool) → ltb 0 (lineReads v l) ≡ b → entryOf own v near′ < entryOf own v far′ →
+    mark-row : (v : ℕ) → Placed own v near → (b : Bool) → ltb 0 (lineReads v l) ≡ b → entryOf own v near′ < entryOf own v far′ →
         (entryOf own v far′ ≤ suc (length (l ∷ us))) × (lineStores v (firstLine (drop (length ls - entryOf own v far′) ls)) ≡ true)
     mark-row v k true z w =
         let a = near-is v k ∙ ap (λ (b : Bool). cond b m (entryOf own v near)) z in
@@ -670,7 +649,7 @@ module _ (own : List ℕ) (ls : List (List ℕ)) (l : List ℕ) (us : List (List
           more-row k s i
           (runs-took own (length ps) h k m (runs (textOf l p)) (near, (far₁, set notes j x)) (alone-length own m x p far ∙ t .wide)
           (λ v z. omega (arith, t .reads v z, first-le (λ (l : List ℕ). ltb 0 (lineReads v l)) us, one)) (notes-at k 4 q));
-      marked = λ v k z. mark-row v (known-as own near′ near v (sym near-len) k) (ltb 0 (lineReads v l)) refl z;
+      marked = λ v k z. mark-row v (slot-kept own near′ near v (sym near-len) k) (ltb 0 (lineReads v l)) refl z;
     }
 
   ones-on : (near′ far′ notes′ : List ℕ) → (near′, (far′, notes′)) ≡ readRuns own (length ps) h m (runs (textOf l p)) (near, (far₁, set notes j x)) → Ones own ls us near far notes →
@@ -865,13 +844,7 @@ line-reads own l t near far f notes c h m x p d q g y =
     y ∙ ap (λ (z : List ℕ). readRuns own c h m (runs z) (near, (f, notes))) q ∙ ap (λ (z : List ℕ). readRuns own c h m (runs (textOf l p)) (near, (z, notes))) g
 
 -- tables of one length that are wiped
-wiped-length : (d d′ : List ℕ) → d′ ≡ replicate (length d) 0 → length d′ ≡ length d
-wiped-length d d′ e = ap length e ∙ length-replicate {A = ℕ} (length d) 0
-
 pub wiped-lengths : (near far stores near′ far′ stores′ : List ℕ) → near′ ≡ replicate (length near) 0 → far′ ≡ replicate (length far) 0 → stores′ ≡ replicate (length stores) 0 →
     (length far ≡ length near) × (length far ≡ length stores) → (length far′ ≡ length near′) × (length far′ ≡ length stores′)
 wiped-lengths near far stores near′ far′ stores′ a b c w =
-    (wiped-length far far′ b ∙ w .0 ∙ sym (wiped-length near near′ a), wiped-length far far′ b ∙ w .1 ∙ sym (wiped-length stores stores′ c))
-
-pub wiped-bytes : (d d′ : List ℕ) (r : ℕ) → Wrote d 0 (replicate (length d) 0) d′ r → d′ ≡ replicate (length d) 0
-wiped-bytes d d′ r w = wrote-whole w (length-replicate {A = ℕ} (length d) 0)
+    (zeros-long (length far) b ∙ w .0 ∙ sym (zeros-long (length near) a), zeros-long (length far) b ∙ w .1 ∙ sym (zeros-long (length stores) c))

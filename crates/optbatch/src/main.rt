@@ -1,5 +1,4 @@
 // Answers requests for whole texts as the original does, and tells of each whether every lent byte is as it should be.
-mod lent;
 mod wire;
 
 ghost use mathlib.Core.Path.{_≡_};
@@ -27,14 +26,14 @@ fn text_room() -> [u8; 16385]
 fn byte_room() -> [u8; 32777]
     ensures { λ r. ⌜ 32777 ≡ length r ⌝ }
 {
-    [lent::BYTE; 32777]
+    [input::lent::BYTE; 32777]
 }
 
 // A filled buffer of blocks, some longer than it has to be.
 fn block_room() -> [u32; 16392]
     ensures { λ r. ⌜ 16392 ≡ length r ⌝ }
 {
-    [lent::BLOCK; 16392]
+    [input::lent::BLOCK; 16392]
 }
 
 // How much of the work buffer `which` is lent, of `there`: one element less than is stated where the request says so.
@@ -115,12 +114,12 @@ fn ask(
 
 // Whether the work buffers are as they should be.
 fn work_fixed(ran: bool, a: &[u8], b: &[u8], c: &[u8], d: &[u8], e: &[u8], u: &[u32]) -> bool {
-    lent::as_fixed(a, BYTES, ran)
-        & lent::as_fixed(b, BYTES, ran)
-        & lent::as_fixed(c, BYTES, ran)
-        & lent::as_fixed(d, BYTES, ran)
-        & lent::as_fixed(e, BYTES, ran)
-        & lent::blocks_as_fixed(u, BLOCKS, ran)
+    input::lent::as_fixed(a, BYTES, ran)
+        & input::lent::as_fixed(b, BYTES, ran)
+        & input::lent::as_fixed(c, BYTES, ran)
+        & input::lent::as_fixed(d, BYTES, ran)
+        & input::lent::as_fixed(e, BYTES, ran)
+        & input::lent::blocks_as_fixed(u, BLOCKS, ran)
 }
 
 // Whether the passes ran.
@@ -141,7 +140,7 @@ fn tell(
     out: &[u8],
 ) -> bool {
     let n = limits::length_of(got);
-    let memory = work_fixed(has_run(got), a, b, c, d, e, u) & lent::kept_from(out, n);
+    let memory = work_fixed(has_run(got), a, b, c, d, e, u) & input::lent::kept_from(out, n);
     wire::write_answer(
         STDOUT_FILENO,
         limits::number_of(got),

@@ -1,14 +1,14 @@
 -- Laws of zeroing, and of the last step. Assumes nothing.
 use Prim.Native.Nat.{ℕ}
-use mathlib.Core.Path.{_≡_, sym, ap, _∙_}
+use mathlib.Core.Path.{_≡_, refl, sym, ap, _∙_}
 use mathlib.Core.List.{List}
-use lib.ListN.{length, take, replicate, length-replicate}
+use lib.ListN.{length, take, replicate}
 use Rattle.lines.specs.Lf.{endsIn, linesOf, unlines}
 use Rattle.lines.specs.Inner.Out.{Wrote}
 use Rattle.lines.specs.Steps.{splitLines, joined}
-use Rattle.lines.proofs.OutLaws.{wrote-whole}
 use Rattle.lines.proofs.LfLaws.{lines-unlines}
 use Rattle.lines.proofs.StepLaws.{split-noLf}
+use Rattle.slots.proofs.SlotLaws.{wiped-zeros}
 use Rattle.limits.specs.declared.Answer.{Answer}
 use Rattle.limits.specs.Entry.{roomed, outAfter, blank}
 use Rattle.steps.proofs.Tame.{Tame}
@@ -19,7 +19,7 @@ use Rattle.passes.specs.Inner.Buffers.{Front, Blank, Unused}
 
 pub wiped-all : (d : List ℕ) {d′ : List ℕ} {n r : ℕ} → n ≡ length d → Wrote d 0 (replicate n 0) d′ r → d′ ≡ blank (length d)
 unfolding blank
-wiped-all d {n = n} e w = wrote-whole w (length-replicate {A = ℕ} n 0 ∙ e) ∙ ap (λ (m : ℕ). replicate m 0) e
+wiped-all d e w = wiped-zeros e refl w
 
 pub wiped-numbers : (d : List ℕ) {d′ : List ℕ} → d′ ≡ replicate (length d) 0 → d′ ≡ blank (length d)
 unfolding blank

@@ -12,24 +12,8 @@ use Rattle.reading.specs.Reading.{Reading}
 use Rattle.phis.specs.Phis.{anyDead, round, pruneDeadPhis}
 use Rattle.phis.specs.Inner.Rounds.{longest}
 use Rattle.phis.proofs.Writes.{drop-more}
+use Rattle.slots.proofs.SlotLaws.{wiped-past}
 use Rattle.phis.proofs.Keeps.{round-reads, none-dead}
-
--- ---- wiping
-
-zeros-length : (n : ℕ) → length (replicate {A = ℕ} n 0) ≡ n
-zeros-length zero = refl
-zeros-length (suc n) = ap suc (zeros-length n)
-
--- what was used of the scratch is no longer than what is wiped
-wiped : (n : ℕ) (c d d′ : List ℕ) → drop n d ≡ drop n c → length d ≡ length c → Wrote d 0 (replicate n 0) d′ n → Wrote c 0 (replicate n 0) d′ n
-unfolding putAt
-wiped n c d d′ e s w = record {
-  fits = omega (arith, w .fits);
-  place = w .place;
-  holds =
-      let z : 0 + length (replicate {A = ℕ} n 0) ≡ n = omega (arith, zeros-length n) in
-      w .holds ∙ ap (λ (k : ℕ). replicate n 0 ++ drop k d) z ∙ ap (λ (r : List ℕ). replicate n 0 ++ r) e ∙ ap (λ (k : ℕ). replicate n 0 ++ drop k c) (sym z);
-}
 
 -- ---- one round after the other
 
@@ -102,4 +86,4 @@ longest-first R t = (omega arith, omega arith)
 pub scratch-end : (c c₁ c₂ c₃ d : List ℕ) (n m k w : ℕ) → drop n c₁ ≡ drop n c → drop m c₂ ≡ drop m c₁ → drop k c₃ ≡ drop k c₂ → length c₃ ≡ length c →
     (n ≤ w) × ((m ≤ w) × (k ≤ w)) → Wrote c₃ 0 (replicate w 0) d w → Wrote c 0 (replicate w 0) d w
 scratch-end c c₁ c₂ c₃ d n m k w e f g s (p, (q, r)) v =
-    wiped w c c₃ d (drop-more k w c₃ c₂ r g ∙ drop-more m w c₂ c₁ q f ∙ drop-more n w c₁ c p e) s v
+    wiped-past w c c₃ d (drop-more k w c₃ c₂ r g ∙ drop-more m w c₂ c₁ q f ∙ drop-more n w c₁ c p e) s v

@@ -21,7 +21,8 @@ use Rattle.po.specs.Form.{escaped}
 use Rattle.po.specs.Answers.{flawIn, orElse, firstFlaw}
 use Rattle.po.proofs.IndexLaws.{known-last}
 use Rattle.po.proofs.Trip.{text-escaped}
-use Rattle.potrip.proofs.Cut.{lacks-append, escaped-lacks}
+use Rattle.po.proofs.RefTrip.{lacks-both}
+use Rattle.potrip.proofs.Cut.{escaped-lacks}
 use Rattle.potrip.proofs.Order.{Climbs, climb}
 use Rattle.potrip.proofs.Distinct.{Fresh, fresh}
 use Rattle.potrip.proofs.Utf.{Utf, done, low, utf-append, utf-valid}
@@ -189,7 +190,7 @@ listingOf es = unlines (lineOf 1 es ∷ moreOf 1 es)
 -- no line of it holds an LF
 lit-lf : (x l : List ℕ) → lacks 10 l ≡ true → lacks 10 (litOn x l) ≡ true
 unfolding lacks
-lit-lf x l h = lacks-append 10 (escaped x) (34 ∷ l) (escaped-lacks x) h
+lit-lf x l h = lacks-both 10 (escaped x) (34 ∷ l) (escaped-lacks x) h
 
 line-lf : (m : ℕ) (es : List Entry) → lacks 10 (lineOf m es) ≡ true
 unfolding lacks

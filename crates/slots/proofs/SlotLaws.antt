@@ -4,10 +4,12 @@ use mathlib.Core.Path.{_≡_, refl, sym, ap, _∙_}
 use mathlib.Core.Bool.{Bool, true, false, cond, _||_}
 use mathlib.Core.List.{List, _∷_, _++_}
 use native.Mathlib.Omega.{arith}
-use borrow.Author.Tests.{lt-ltb, le-ltb, ltb-true, ltb-false, eq-eqb, ne-eqb, eqb-true}
+use borrow.Author.Tests.{lt-ltb, le-ltb, ltb-true, ltb-false, eq-eqb, ne-eqb, eqb-true, eqb-false}
 use lib.Dec.{eqb, ltb}
 use lib.ListN.{length, getD, set, take, drop, replicate, length-set, length-replicate}
 use lib.Seq.{getD-set-same, getD-set-other}
+use Rattle.lines.specs.Inner.Out.{putAt, Wrote}
+use Rattle.lines.proofs.OutLaws.{wrote-whole}
 use Rattle.slots.specs.Inner.Slots.{spotGo, spot, seek, slotOf, entryOf, withEntry}
 
 -- ---- looking for the place of a number, with k places left to look at
@@ -130,6 +132,14 @@ slot-kept own d d′ v e h = rw e h
 abbrev pub Placed : List ℕ → ℕ → List ℕ → Type 0
 Placed own v d = slotOf (length d) own v < length d
 
+-- its entry after the number u got the entry x
+pub entry-after : (own d : List ℕ) (u x v : ℕ) → Placed own v d → entryOf own v (withEntry own u x d) ≡ cond (eqb u v) x (entryOf own v d)
+entry-after own d u x v h = go (eqb u v) refl
+  where
+    go : (b : Bool) → eqb u v ≡ b → entryOf own v (withEntry own u x d) ≡ cond b x (entryOf own v d)
+    go true e = ap (λ (n : ℕ). entryOf own v (withEntry own n x d)) (eqb-true u v e) ∙ entry-same own d v x h
+    go false e = entry-other own d u x v h (eqb-false u v e)
+
 -- ---- tables of zeros
 
 pub zeros-long : {d : List ℕ} (n : ℕ) → d ≡ replicate n 0 → length d ≡ n
@@ -147,3 +157,20 @@ zeros-take k n e h = ap (take k) e ∙ go k n h
 -- what was lent of it, in the place of its front, leaves its length
 pub zeros-again : (k n : ℕ) (w : List ℕ) {d u : List ℕ} → d ≡ replicate n 0 → length (w ++ drop k d) ≡ length d → u ≡ replicate (length (w ++ drop k d)) 0 → u ≡ replicate n 0
 zeros-again k n w e f g = g ∙ ap (λ (m : ℕ). replicate m 0) (f ∙ zeros-long n e)
+
+-- ---- wiping
+
+-- a table that is wiped as far as it is long
+pub wiped-zeros : {d d′ : List ℕ} {m n r : ℕ} → m ≡ length d → length d ≡ n → Wrote d 0 (replicate m 0) d′ r → d′ ≡ replicate n 0
+wiped-zeros {m = m} e f w = wrote-whole w (length-replicate {A = ℕ} m 0 ∙ e) ∙ ap (λ (k : ℕ). replicate k 0) (e ∙ f)
+
+-- what stood in the first n entries before they were wiped is gone
+pub wiped-past : (n : ℕ) (c d d′ : List ℕ) → drop n d ≡ drop n c → length d ≡ length c → Wrote d 0 (replicate n 0) d′ n → Wrote c 0 (replicate n 0) d′ n
+unfolding putAt
+wiped-past n c d d′ e s w = record {
+  fits = omega (arith, w .fits);
+  place = w .place;
+  holds =
+      let z : 0 + length (replicate {A = ℕ} n 0) ≡ n = omega (arith, length-replicate {A = ℕ} n 0) in
+      w .holds ∙ ap (λ (k : ℕ). replicate n 0 ++ drop k d) z ∙ ap (λ (r : List ℕ). replicate n 0 ++ r) e ∙ ap (λ (k : ℕ). replicate n 0 ++ drop k c) (sym z);
+}

@@ -1,10 +1,11 @@
 -- `calls::rebuild_with` meets its contract. Assumes nothing.
 use borrow.Author.Needs.{needs}
 use native.Mathlib.Omega.{arith}
-use mathlib.Core.Path.{ap, _∙_}
+use mathlib.Core.Path.{refl, ap, _∙_}
 use lib.ListN.{length}
 use Rattle.lines.proofs.OutLaws.{wrote-as}
-use Rattle.calls.proofs.Wipes.{wiped-all, rebuilt-text}
+use Rattle.slots.proofs.SlotLaws.{wiped-zeros}
+use Rattle.calls.proofs.Wipes.{rebuilt-text}
 use Rattle.calls.proofs.rebuild_with.Statement.{statement}
 use Rattle.calls.proofs.rebuild_with.Tie as tie
 
@@ -42,7 +43,7 @@ same-length-5 : tie.Need-same-length-5
 same-length-5 c = c .before .before .before .before .before .before .before .before .before .before .before .before .before .before .put .kept .0
 
 returns : tie.Need-returns
-returns c = (wrote-as (rebuilt-text (c .before .before .before .before .before .before .before .before .before .before .before .before .before .before .before .before .before .before .before .before .before .before .before .before .before .before .rebuild-window .ensures) (c .before .before .before .before .before .before .before .before .before .before .before .before .before .before .before .cut .result .now) (c .before .before .before .before .before .before .before .before .before .before .before .before .before .before .before .cut .ensures)) (c .before .before .before .before .before .before .before .before .before .before .before .before .before .before .put .ensures), (c .before .before .before .before .before .before .before .before .before .before .before .before .before .before .before .before .before .before .before .before .before .before .before .before .before .before .rebuild-window .ensures .owners, (wiped-all (c .before .before .before .before .before .before .before .before .before .before .before .before .before .before .before .before .before .before .before .before .before .before .before .before .before .before .rebuild-window .kept .1 .1 .1 .1 .1 .1 .1 .0) (c .before .before .before .before .before .before .before .before .before .before .wipe .ensures), (wiped-all (c .before .before .before .before .before .before .before .before .before .before .before .before .before .before .before .before .before .before .before .before .before .before .before .before .before .before .rebuild-window .kept .1 .1 .1 .1 .1 .1 .1 .1 .0) (c .before .before .before .before .before .before .wipe2 .ensures), wiped-all (c .before .before .before .before .before .before .before .before .before .before .before .before .before .before .before .before .before .before .before .before .before .before .before .before .before .before .rebuild-window .kept .1 .1 .1 .1 .1 .1 .1 .1 .1 .0) (c .before .before .wipe3 .ensures)))))
+returns c = (wrote-as (rebuilt-text (c .before .before .before .before .before .before .before .before .before .before .before .before .before .before .before .before .before .before .before .before .before .before .before .before .before .before .rebuild-window .ensures) (c .before .before .before .before .before .before .before .before .before .before .before .before .before .before .before .cut .result .now) (c .before .before .before .before .before .before .before .before .before .before .before .before .before .before .before .cut .ensures)) (c .before .before .before .before .before .before .before .before .before .before .before .before .before .before .put .ensures), (c .before .before .before .before .before .before .before .before .before .before .before .before .before .before .before .before .before .before .before .before .before .before .before .before .before .before .rebuild-window .ensures .owners, (wiped-zeros refl (c .before .before .before .before .before .before .before .before .before .before .before .before .before .before .before .before .before .before .before .before .before .before .before .before .before .before .rebuild-window .kept .1 .1 .1 .1 .1 .1 .1 .0) (c .before .before .before .before .before .before .before .before .before .before .wipe .ensures), (wiped-zeros refl (c .before .before .before .before .before .before .before .before .before .before .before .before .before .before .before .before .before .before .before .before .before .before .before .before .before .before .rebuild-window .kept .1 .1 .1 .1 .1 .1 .1 .1 .0) (c .before .before .before .before .before .before .wipe2 .ensures), wiped-zeros refl (c .before .before .before .before .before .before .before .before .before .before .before .before .before .before .before .before .before .before .before .before .before .before .before .before .before .before .rebuild-window .kept .1 .1 .1 .1 .1 .1 .1 .1 .1 .0) (c .before .before .wipe3 .ensures)))))
 
 pub rebuild-with-spec : {M : Type 1} → statement M
 rebuild-with-spec =

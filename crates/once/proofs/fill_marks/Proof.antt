@@ -1,9 +1,9 @@
 -- `once::fill_marks` meets its contract. Assumes nothing.
 use borrow.Author.Needs.{needs}
 use Prim.Native.Nat.{ℕ}
-use mathlib.Core.Path.{ap, _∙_}
+use mathlib.Core.Path.{refl, ap, _∙_}
 use lib.ListN.{length, replicate}
-use Rattle.once.proofs.NoteFills.{wiped-bytes}
+use Rattle.slots.proofs.SlotLaws.{wiped-zeros}
 use Rattle.once.proofs.fill_marks.Statement.{statement}
 use Rattle.once.proofs.fill_marks.Tie as tie
 
@@ -43,7 +43,7 @@ returns : tie.Need-returns
 returns c =
     let n = c .before .before .before .before .before .before .before .before .before .before .before .before .before .before .before .before .before .before .before .before .before .note-lines .ensures .1 .1 in
     let e = c .before .before .before .before .before .before .before .before .mark-with .ensures in
-    (e .0, (e .1, (n .0, (n .1 .0, (n .1 .1, wiped-bytes _ _ _ (c .before .before .wipe .ensures) ∙ ap (λ (n : ℕ). replicate n 0) (c .before .before .before .before .before .before .before .before .before .before .before .before .before .before .before .before .before .before .before .before .before .note-lines .kept .1 .1 .1 .1 .1 .1 .0))))))
+    (e .0, (e .1, (n .0, (n .1 .0, (n .1 .1, wiped-zeros refl refl (c .before .before .wipe .ensures) ∙ ap (λ (n : ℕ). replicate n 0) (c .before .before .before .before .before .before .before .before .before .before .before .before .before .before .before .before .before .before .before .before .before .note-lines .kept .1 .1 .1 .1 .1 .1 .0))))))
 
 pub fill-marks-spec : {M : Type 1} → statement M
 fill-marks-spec =

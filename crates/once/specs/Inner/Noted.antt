@@ -19,31 +19,13 @@ use Rattle.parse.specs.declared.Line.the-variants as line
 use Rattle.place.specs.Region.{isHeader, region, regionAt}
 use Rattle.reading.specs.Uses.{lineReads, lineStores}
 use Rattle.slots.specs.Inner.Slots.{slotOf, entryOf, withEntry}
+use Rattle.decls.specs.Inner.Firsts.{firstBy, readFrom}
 use Rattle.decls.specs.Inner.Seen.{markName}
 use Rattle.once.specs.Scratch.{liveBelow}
 use Rattle.once.specs.Once.{deadBy, readCount, laterRead}
 use Rattle.once.specs.Inner.Tables.{nextIn}
 
--- ---- the next lines that use a register. The number of a line is how many lines there are from it on
-
--- the number of the first line that passes a test, or 0
-unfoldable pub firstBy : (List ℕ → Bool) → List (List ℕ) → ℕ
-firstBy f [] = 0
-firstBy f (l ∷ ls) = cond (f l) (suc (length ls)) (firstBy f ls)
-
--- of the first line that reads register v
-abbrev pub readFrom : ℕ → List (List ℕ) → ℕ
-readFrom v ls = firstBy (λ (l : List ℕ). ltb 0 (lineReads v l)) ls
-
--- of the first line that stores it
-abbrev pub storeFrom : ℕ → List (List ℕ) → ℕ
-storeFrom v ls = firstBy (λ (l : List ℕ). lineStores v l) ls
-
--- of the first header
-abbrev pub headFrom : List (List ℕ) → ℕ
-headFrom ls = firstBy (λ (l : List ℕ). isHeader l) ls
-
--- of the line that has the second read of register v
+-- the number of the line that has the second read of register v
 unfoldable pub farFrom : ℕ → List (List ℕ) → ℕ
 unfolding firstBy
 farFrom v [] = 0
@@ -79,10 +61,6 @@ noteDead = 6
 
 -- ---- tables of these numbers. The one of the second reads is right where a register is read before it is stored; a store whose value the
 -- region reads once, on the next line, puts its own number there, which is above that of the read
-
--- the register v has a place in the table d
-abbrev pub Known : List ℕ → List ℕ → ℕ → Type 0
-Known own d v = slotOf (length d) own v < length d
 
 -- the table f of the second reads, where n has the first ones, after a read of the register that a name is
 abbrev pub farName : List ℕ → RegName → List ℕ → List ℕ → List ℕ

@@ -1,10 +1,11 @@
 -- `once::noted::note_lines` meets its contract. Assumes nothing.
 use borrow.Author.Needs.{needs}
 use Prim.Native.Nat.{ℕ}
-use mathlib.Core.Path.{ap, _∙_}
+use mathlib.Core.Path.{refl, ap, _∙_}
 use lib.ListN.{length, replicate}
 use Rattle.decls.proofs.SeenLaws.{wiped-most}
-use Rattle.once.proofs.NoteFills.{wiped-lengths, wiped-bytes}
+use Rattle.slots.proofs.SlotLaws.{wiped-zeros}
+use Rattle.once.proofs.NoteFills.{wiped-lengths}
 use Rattle.once.proofs.noted.note_lines.Statement.{statement}
 use Rattle.once.proofs.noted.note_lines.Tie as tie
 
@@ -23,7 +24,7 @@ wipe-requires c κs = search needs
 note-up-requires : tie.Need-note-up-requires
 note-up-requires c κs =
     let a = c .before .before .before .before .before .before .before .before .before .before .before .before .before .before .before .before .before .before .before .before .before .before .before .before .before .before .before .before .args in
-    (c .before .before .before .before .before .before .before .before .before .before .before .before .before .before .before .before .before .before .before .before .before .before .before .before .before .before .before .before .pre .0, (wiped-lengths (a .near .now) (a .far .now) (a .stores .now) _ _ _ (c .before .before .before .before .before .before .before .before .before .before .before .before .before .before .before .before .before .before .wipe-numbers .ensures) (c .before .before .before .before .before .before .before .before .before .before .before .before .before .before .wipe-numbers2 .ensures) (c .before .before .before .before .before .before .before .before .before .before .wipe-numbers3 .ensures) (c .before .before .before .before .before .before .before .before .before .before .before .before .before .before .before .before .before .before .before .before .before .before .before .before .before .before .before .before .pre .1 .0), (wiped-most (length (a .near .now)) _ (c .before .before .before .before .before .before .before .before .before .before .before .before .before .before .before .before .before .before .wipe-numbers .ensures), (wiped-most (length (a .far .now)) _ (c .before .before .before .before .before .before .before .before .before .before .before .before .before .before .wipe-numbers2 .ensures), (wiped-most (length (a .stores .now)) _ (c .before .before .before .before .before .before .before .before .before .before .wipe-numbers3 .ensures), (wiped-most (length (a .notes .now)) _ (wiped-bytes (a .notes .now) _ _ (c .before .before .before .before .before .before .wipe .ensures)), c .before .before .before .before .before .before .before .before .before .before .before .before .before .before .before .before .before .before .before .before .before .before .before .before .before .before .before .before .pre .1 .1))))))
+    (c .before .before .before .before .before .before .before .before .before .before .before .before .before .before .before .before .before .before .before .before .before .before .before .before .before .before .before .before .pre .0, (wiped-lengths (a .near .now) (a .far .now) (a .stores .now) _ _ _ (c .before .before .before .before .before .before .before .before .before .before .before .before .before .before .before .before .before .before .wipe-numbers .ensures) (c .before .before .before .before .before .before .before .before .before .before .before .before .before .before .wipe-numbers2 .ensures) (c .before .before .before .before .before .before .before .before .before .before .wipe-numbers3 .ensures) (c .before .before .before .before .before .before .before .before .before .before .before .before .before .before .before .before .before .before .before .before .before .before .before .before .before .before .before .before .pre .1 .0), (wiped-most (length (a .near .now)) _ (c .before .before .before .before .before .before .before .before .before .before .before .before .before .before .before .before .before .before .wipe-numbers .ensures), (wiped-most (length (a .far .now)) _ (c .before .before .before .before .before .before .before .before .before .before .before .before .before .before .wipe-numbers2 .ensures), (wiped-most (length (a .stores .now)) _ (c .before .before .before .before .before .before .before .before .before .before .wipe-numbers3 .ensures), (wiped-most (length (a .notes .now)) _ (wiped-zeros refl refl (c .before .before .before .before .before .before .wipe .ensures)), c .before .before .before .before .before .before .before .before .before .before .before .before .before .before .before .before .before .before .before .before .before .before .before .before .before .before .before .before .pre .1 .1))))))
 
 wipe-numbers-requires-4 : tie.Need-wipe-numbers-requires-4
 wipe-numbers-requires-4 c κs = search needs

@@ -1,9 +1,9 @@
--- `checkbatch::lent::all_are` is safe and ends. The measure is how many bytes are left. Assumes nothing.
+-- `input::lent::all_are` is safe and ends. The measure is how many bytes are left. Assumes nothing.
 use native.Mathlib.Omega.{arith}
 use Prim.Native.Nat.{_-_}
 use lib.ListN.{length}
-use Rattle.checkbatch.proofs.lent.all_are.Statement.{statement}
-use Rattle.checkbatch.proofs.lent.all_are.Tie as tie
+use Rattle.input.proofs.lent.all_are.Statement.{statement}
+use Rattle.input.proofs.lent.all_are.Tie as tie
 
 abbrev Inv-loop : tie.InvT-loop
 Inv-loop s b other₀ i₀ other i = Unit {0}

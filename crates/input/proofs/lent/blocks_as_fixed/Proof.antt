@@ -1,10 +1,10 @@
--- `optbatch::lent::blocks_as_fixed` is safe and ends. What is lent has the length that is asked. Assumes nothing.
+-- `input::lent::blocks_as_fixed` is safe and ends. What is lent has the length that is asked. Assumes nothing.
 use native.Mathlib.Omega.{arith}
 use mathlib.Core.Path.{sym}
 use lib.Seq.{length-take-le}
 use borrow.Author.Needs.{needs}
-use Rattle.optbatch.proofs.lent.blocks_as_fixed.Statement.{statement}
-use Rattle.optbatch.proofs.lent.blocks_as_fixed.Tie as tie
+use Rattle.input.proofs.lent.blocks_as_fixed.Statement.{statement}
+use Rattle.input.proofs.lent.blocks_as_fixed.Tie as tie
 
 all-blocks-are-requires : tie.Need-all-blocks-are-requires
 all-blocks-are-requires c κs = search needs

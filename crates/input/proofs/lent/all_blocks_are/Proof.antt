@@ -1,9 +1,9 @@
--- `optbatch::lent::all_are` is safe and ends. The measure is how many bytes are left. Assumes nothing.
+-- `input::lent::all_blocks_are` is safe and ends. The measure is how many blocks are left. Assumes nothing.
 use native.Mathlib.Omega.{arith}
 use Prim.Native.Nat.{_-_}
 use lib.ListN.{length}
-use Rattle.optbatch.proofs.lent.all_are.Statement.{statement}
-use Rattle.optbatch.proofs.lent.all_are.Tie as tie
+use Rattle.input.proofs.lent.all_blocks_are.Statement.{statement}
+use Rattle.input.proofs.lent.all_blocks_are.Tie as tie
 
 abbrev Inv-loop : tie.InvT-loop
 Inv-loop s b other₀ i₀ other i = Unit {0}
@@ -13,6 +13,9 @@ abbrev μ-loop : tie.MeasureT-loop
 
 loop-holds : tie.Need-loop-holds Inv-loop μ-loop
 loop-holds c = tt
+
+mul-other : tie.Need-mul-other Inv-loop μ-loop
+mul-other c = omega arith
 
 shared-slice-read-other : tie.Need-shared-slice-read-other Inv-loop μ-loop
 shared-slice-read-other c = omega arith
@@ -29,13 +32,14 @@ loop-again c = tt
 returns : tie.Need-returns Inv-loop μ-loop
 returns c = tt
 
-pub all-are-spec : {M : Type 1} → statement M
-all-are-spec =
+pub all-blocks-are-spec : {M : Type 1} → statement M
+all-blocks-are-spec =
     tie.close
     (tie.spec
     Inv-loop
     μ-loop
     loop-holds
+    mul-other
     shared-slice-read-other
     add-i
     loop-less
