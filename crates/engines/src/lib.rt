@@ -11,7 +11,7 @@ ghost use Rattle.place.specs.Inner.Fill.{Filled, flagsOf};
 ghost use Rattle.place.specs.Loops.{insideLoop};
 ghost use Rattle.place.specs.Paths.{blockPaths, tops};
 ghost use Rattle.place.specs.Inner.Parents.{pathParents};
-ghost use Rattle.once.specs.Inner.Tables.{Blank, storeDrops, lineDrops};
+ghost use Rattle.once.specs.Inner.Tables.{Zeroed, storeDrops, lineDrops};
 ghost use Rattle.engines.specs.Engines.{plainEngine, sweepEngine};
 ghost use Rattle.engines.specs.Inner.Flags.{dropsIn, goesIn};
 
@@ -29,7 +29,7 @@ fn store_goes(
     paths: &[usize],
     scratch: &mut [u8],
 ) -> bool
-    requires { ⌜ Blank (length (now x)) (now scratch) ⌝ }
+    requires { ⌜ Zeroed (length (now x)) (now scratch) ⌝ }
     ensures answer { λ r. ⌜ r ≡ storeDrops (readingOf (mode .0)) (reg .0) (now (x .entry)) p in_loop (linesOf (now (below .entry))) (now (paths .entry)) ⌝ }
     ensures memory { λ _. ⌜ now (scratch .exit) ≡ now (scratch .entry) ⌝ }
 {
@@ -58,7 +58,7 @@ fn line_goes(
     paths: &[usize],
     scratch: &mut [u8],
 ) -> bool
-    requires { ⌜ Blank (length (now line)) (now scratch) ⌝ }
+    requires { ⌜ Zeroed (length (now line)) (now scratch) ⌝ }
     ensures answer { λ r. ⌜ r ≡ lineDrops (readingOf (mode .0)) (now (line .entry)) p in_loop (linesOf (now (below .entry))) (now (paths .entry)) ⌝ }
     ensures memory { λ _. ⌜ now (scratch .exit) ≡ now (scratch .entry) ⌝ }
 {
@@ -81,7 +81,7 @@ fn flag_lines(
     scratch: &mut [u8],
     flags: &mut [u8],
 ) -> usize
-    requires { ⌜ (Blank (length (now text)) (now scratch))
+    requires { ⌜ (Zeroed (length (now text)) (now scratch))
         × ((length (linesOf (now text)) ≤ length (now flags))
         × ((length (linesOf (now text)) ≤ length (now paths)) × (length (linesOf (now text)) ≤ length (now loops)))) ⌝ }
     ensures answer { λ r. ⌜ Filled (now (flags .entry)) (flagsOf (dropsIn (readingOf (mode .0)) (linesOf (now (text .entry))) (now (paths .entry)) (now (loops .entry)))) (now (flags .exit)) r ⌝ }

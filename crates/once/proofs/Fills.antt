@@ -22,7 +22,7 @@ use Rattle.place.proofs.Nests.{length-loops}
 use Rattle.reading.specs.Reading.{Reading}
 use Rattle.decls.proofs.Writes.{at-same, at-new}
 use Rattle.once.specs.Once.{Spot, spotsOf, spots, linesIn, dropped, forwards, nextRun, onceGo, onceActs}
-use Rattle.once.specs.Inner.Tables.{Blank, lineDrops, lineForwards, markOf, marksGo, onceMarks, actsBy, isSet, firstDrops, firstTakes, markBy, firstMark, marksIn, marksOf, areaAt}
+use Rattle.once.specs.Inner.Tables.{Zeroed, lineDrops, lineForwards, markOf, marksGo, onceMarks, actsBy, isSet, firstDrops, firstTakes, markBy, firstMark, marksIn, marksOf, areaAt}
 use Rattle.once.specs.Inner.Noted.{RowAt}
 use Rattle.once.proofs.Searches.{lines-in}
 use Rattle.once.proofs.Marks.{drops-is, forwards-is, acts-marks}

@@ -1,6 +1,6 @@
 pub mod Scratches
 pub mod Searches
-pub mod Blanks
+pub mod Zeros
 pub mod Decides
 pub mod Marks
 pub mod Writes

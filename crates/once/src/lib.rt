@@ -17,7 +17,7 @@ ghost use Rattle.once.specs.Scratch.{objectOf, isMember, liveBelow, chan
 ghost use Rattle.once.specs.Once.{readCount, firstOf, takenBy, onceActs, optimizeOnce};
 ghost use Rattle.words.specs.Hits.{regHit, replaceReg};
 ghost use Rattle.reading.specs.Reading.{readingOf, pureIn};
-ghost use Rattle.once.specs.Inner.Tables.{readBelow, anyCall, Blank, hasHit, storeDrops, lineDrops, storeForwards, lineForwards, onceMarks, actBy, actsBy, isSet, firstDrops, firstTakes, markBy, firstMark, marksOf, areaAt};
+ghost use Rattle.once.specs.Inner.Tables.{readBelow, anyCall, Zeroed, hasHit, storeDrops, lineDrops, storeForwards, lineForwards, onceMarks, actBy, actsBy, isSet, firstDrops, firstTakes, markBy, firstMark, marksOf, areaAt};
 ghost use Rattle.once.specs.Inner.Noted.{noteStored, noteDead, CalmIn, Calm, LineAt, RowAt, DropIs, DropBy, sentTo, SendIs, SendBy, OneIs, OneBy, OneOf, firstLine, NotesOf, EndsOf};
 ghost use Rattle.place.specs.Inner.Fill.{Filled, flagsOf};
 ghost use Rattle.place.specs.Loops.{insideLoop};
@@ -256,7 +256,7 @@ fn store_drops(
     calm: usize,
     scratch: &mut [u8],
 ) -> bool
-    requires { ⌜ (Blank (length (now x)) (now scratch)) × ((DropIs (reg .0) p (linesOf (now below)) (now paths) note) × (CalmIn (now below) calm)) ⌝ }
+    requires { ⌜ (Zeroed (length (now x)) (now scratch)) × ((DropIs (reg .0) p (linesOf (now below)) (now paths) note) × (CalmIn (now below) calm)) ⌝ }
     ensures answer { λ r. ⌜ r ≡ storeDrops (readingOf (mode .0)) (reg .0) (now (x .entry)) p in_loop (linesOf (now (below .entry))) (now (paths .entry)) ⌝ }
     ensures memory { λ _. ⌜ now (scratch .exit) ≡ now (scratch .entry) ⌝ }
 {
@@ -297,7 +297,7 @@ fn line_drops(
     calm: usize,
     scratch: &mut [u8],
 ) -> bool
-    requires { ⌜ (q ≡ parseOf (now line)) × ((Blank (length (now line)) (now scratch)) × ((DropBy (now line) p (linesOf (now below)) (now paths) note) × (CalmIn (now below) calm))) ⌝ }
+    requires { ⌜ (q ≡ parseOf (now line)) × ((Zeroed (length (now line)) (now scratch)) × ((DropBy (now line) p (linesOf (now below)) (now paths) note) × (CalmIn (now below) calm))) ⌝ }
     ensures answer { λ r. ⌜ r ≡ lineDrops (readingOf (mode .0)) (now (line .entry)) p in_loop (linesOf (now (below .entry))) (now (paths .entry)) ⌝ }
     ensures memory { λ _. ⌜ now (scratch .exit) ≡ now (scratch .entry) ⌝ }
 {
@@ -383,7 +383,7 @@ fn store_forwards(
     note: u8,
     scratch: &mut [u8],
 ) -> bool
-    requires { ⌜ (Blank (length (now x)) (now scratch)) × ((SendIs (reg .0) (now next ∷ linesOf (now below)) note) × (OneIs (reg .0) (region (linesOf (now run))) note)) ⌝ }
+    requires { ⌜ (Zeroed (length (now x)) (now scratch)) × ((SendIs (reg .0) (now next ∷ linesOf (now below)) note) × (OneIs (reg .0) (region (linesOf (now run))) note)) ⌝ }
     ensures answer { λ r. ⌜ r ≡ storeForwards (readingOf (mode .0)) (reg .0) (now (x .entry)) (region (linesOf (now (run .entry)))) in_loop gone (now (next .entry)) (linesOf (now (below .entry))) ⌝ }
     ensures memory { λ _. ⌜ now (scratch .exit) ≡ now (scratch .entry) ⌝ }
 {
@@ -419,7 +419,7 @@ fn line_forwards(
     scratch: &mut [u8],
 ) -> bool
     requires { ⌜ (p ≡ parseOf (now line))
-        × ((Blank (length (now line)) (now scratch)) × ((SendBy (now line) (now next ∷ linesOf (now below)) note) × (OneBy (now line) (region (linesOf (now run))) note))) ⌝ }
+        × ((Zeroed (length (now line)) (now scratch)) × ((SendBy (now line) (now next ∷ linesOf (now below)) note) × (OneBy (now line) (region (linesOf (now run))) note))) ⌝ }
     ensures answer { λ r. ⌜ r ≡ lineForwards (readingOf (mode .0)) (now (line .entry)) (region (linesOf (now (run .entry)))) in_loop gone (now (next .entry)) (linesOf (now (below .entry))) ⌝ }
     ensures memory { λ _. ⌜ now (scratch .exit) ≡ now (scratch .entry) ⌝ }
 {
@@ -459,7 +459,7 @@ fn drops_at(
     scratch: &mut [u8],
 ) -> bool
     requires { ⌜ (LineAt (now text) i e p)
-        × ((Blank (length (now text)) (now scratch))
+        × ((Zeroed (length (now text)) (now scratch))
         × ((DropBy (firstLine (linesOf (drop i (now text)))) (getD (now paths) k 0) (drop 1 (linesOf (drop i (now text)))) (drop (k + 1) (now paths)) note) × (Calm (now text) calm))) ⌝ }
     ensures answer { λ r. ⌜ r ≡ firstDrops (readingOf (mode .0)) (linesOf (drop i (now (text .entry)))) (drop k (now (paths .entry))) in_loop ⌝ }
     ensures memory { λ _. ⌜ now (scratch .exit) ≡ now (scratch .entry) ⌝ }
@@ -500,7 +500,7 @@ fn next_drops(
     scratch: &mut [u8],
 ) -> bool
     requires { ⌜ (linesOf (drop j (now text)) ≡ drop k (linesOf (now text)))
-        × ((Blank (length (now text)) (now scratch)) × ((Calm (now text) calm) × ((NotesOf (linesOf (now text)) (now paths) (now notes)) × (EndsOf (now text) (now ends))))) ⌝ }
+        × ((Zeroed (length (now text)) (now scratch)) × ((Calm (now text) calm) × ((NotesOf (linesOf (now text)) (now paths) (now notes)) × (EndsOf (now text) (now ends))))) ⌝ }
     ensures answer { λ r. ⌜ r ≡ firstDrops (readingOf (mode .0)) (linesOf (drop j (now (text .entry)))) (drop k (now (paths .entry))) (isSet (getD (now (loops .entry)) k 0)) ⌝ }
     ensures memory { λ _. ⌜ now (scratch .exit) ≡ now (scratch .entry) ⌝ }
 {
@@ -530,7 +530,7 @@ fn mark_at(
 ) -> u8
     requires { ⌜ (p ≡ parseOf (now line))
         × ((e ≡ j + upTo 10 (drop j (now text)))
-        × ((Blank (length (now line)) (now scratch))
+        × ((Zeroed (length (now line)) (now scratch))
         × ((SendBy (now line) (linesOf (drop j (now text))) note) × (OneBy (now line) (region (linesOf (now run))) note)))) ⌝ }
     ensures answer { λ r. ⌜ r ≡ markBy false (firstTakes (readingOf (mode .0)) (now (line .entry)) (region (linesOf (now (run .entry)))) in_loop next (linesOf (drop j (now (text .entry))))) ⌝ }
     ensures memory { λ _. ⌜ now (scratch .exit) ≡ now (scratch .entry) ⌝ }
@@ -572,7 +572,7 @@ fn mark_line(
     scratch: &mut [u8],
 ) -> u8
     requires { ⌜ (RowAt (now text) i e k)
-        × ((Blank (length (now text)) (now scratch))
+        × ((Zeroed (length (now text)) (now scratch))
         × ((OneBy (part i e (now text)) (region (linesOf (drop run (now text)))) (getD (now notes) k 0))
         × ((Calm (now text) calm) × ((NotesOf (linesOf (now text)) (now paths) (now notes)) × (EndsOf (now text) (now ends)))))) ⌝ }
     ensures answer { λ r. ⌜ r ≡ firstMark (readingOf (mode .0)) (linesOf (drop i (now (text .entry)))) (drop k (now (paths .entry))) (drop k (now (loops .entry))) (region (linesOf (drop run (now (text .entry))))) ⌝ }
@@ -629,7 +629,7 @@ fn mark_with(
     scratch: &mut [u8],
     marks: &mut [u8],
 ) -> usize
-    requires { ⌜ (Blank (length (now text)) (now scratch))
+    requires { ⌜ (Zeroed (length (now text)) (now scratch))
         × ((length (linesOf (now text)) ≤ length (now marks)) × ((OneOf (linesOf (now text)) (now notes)) × ((Calm (now text) calm) × ((NotesOf (linesOf (now text)) (now paths) (now notes)) × (EndsOf (now text) (now ends)))))) ⌝ }
     ensures answer { λ r. ⌜ Filled (now (marks .entry)) (marksOf (readingOf (mode .0)) (linesOf (now (text .entry))) (now (paths .entry)) (now (loops .entry))) (now (marks .exit)) r ⌝ }
     ensures memory { λ _. ⌜ now (scratch .exit) ≡ now (scratch .entry) ⌝ }
@@ -676,7 +676,7 @@ fn fill_marks(
     notes: &mut [u8],
     ends: &[usize],
 ) -> usize
-    requires { ⌜ (Blank (length (now text)) (now scratch))
+    requires { ⌜ (Zeroed (length (now text)) (now scratch))
         × ((length (linesOf (now text)) ≤ length (now marks))
         × ((length (now paths) ≡ length (linesOf (now text)))
         × (((length (now far) ≡ length (now near)) × (length (now far) ≡ length (now stores))) × (EndsOf (now text) (now ends))))) ⌝ }

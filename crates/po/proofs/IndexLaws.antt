@@ -16,7 +16,7 @@ use Rattle.lines.proofs.Compare.{same-eq, same-refl}
 use Rattle.po.specs.declared.Unit.{Unit}
 use Rattle.po.specs.declared.Seek.{Seek}
 use Rattle.po.specs.declared.Seek.the-variants as sought
-use Rattle.po.specs.Found.{textOf, known}
+use Rattle.po.specs.Found.{decoded, known}
 use Rattle.po.specs.Inner.Walk.{unitOf}
 use Rattle.po.specs.Inner.Index.{keyAt, hashOf, seekGo, startOf, seekOf, hintOf, freeOr, entered, isFree, Tells}
 use Rattle.po.proofs.UnitLaws.{text-stop, text-on, text-past}
@@ -24,15 +24,15 @@ use Rattle.po.proofs.UnitLaws.{text-stop, text-on, text-past}
 -- ---- the number of a text
 
 module _ (s : List ℕ) (q h i : ℕ) where
-  pub hash-stop : (u : Unit) → u ≡ unitOf (drop i s) q → u .size ≡ 0 → hashOf h (textOf (drop i s) q) ≡ h
+  pub hash-stop : (u : Unit) → u ≡ unitOf (drop i s) q → u .size ≡ 0 → hashOf h (decoded (drop i s) q) ≡ h
   unfolding hashOf
   hash-stop u e z = rw (text-stop s q i u e z) refl
 
-  pub hash-on : (u : Unit) → u ≡ unitOf (drop i s) q → (u .size ≡ 0 → ⊥) → hashOf h (textOf (drop i s) q) ≡ hashOf ((h * 65599 + u .byte) % 4294967291) (textOf (drop (i + u .size) s) q)
+  pub hash-on : (u : Unit) → u ≡ unitOf (drop i s) q → (u .size ≡ 0 → ⊥) → hashOf h (decoded (drop i s) q) ≡ hashOf ((h * 65599 + u .byte) % 4294967291) (decoded (drop (i + u .size) s) q)
   unfolding hashOf
   hash-on u e n = rw (text-on s q i u e n) refl
 
-  pub hash-past : length s ≤ i → hashOf h (textOf (drop i s) q) ≡ h
+  pub hash-past : length s ≤ i → hashOf h (decoded (drop i s) q) ≡ h
   unfolding hashOf
   hash-past l = rw (text-past s q i l) refl
 

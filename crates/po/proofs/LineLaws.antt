@@ -17,10 +17,10 @@ use Rattle.lexical.proofs.EndLaws.{cons-at}
 use Rattle.text.specs.Utf8Form.{utf8Of}
 use Rattle.names.specs.Names.{decimal, readNumber}
 use Rattle.po.specs.declared.Unit.{Unit}
-use Rattle.po.specs.Found.{plainOf, textOf, empty}
+use Rattle.po.specs.Found.{plainOf, decoded, empty}
 use Rattle.po.specs.Form.{escape, escaped, quoted, refWord, refLine}
 use Rattle.po.specs.Name.{nameRun, isFileName}
-use Rattle.po.specs.Reader.{isValid, isQuoted, quotedText, colon, valueOf, nameIn, lineIn}
+use Rattle.po.specs.Reader.{isValid, isQuotedLine, quotedText, colon, valueOf, nameIn, lineNumber}
 use Rattle.po.specs.Inner.Walk.{unit, unitOf}
 use Rattle.po.specs.Inner.ReadWalk.{formed, isReference, follows}
 use Rattle.po.proofs.UnitLaws.{text-stop, text-on, text-past, escape-self, escaped-cons}
@@ -134,47 +134,47 @@ module _ (l : List ℕ) (i : ℕ) (u : Unit) (e : u ≡ unitOf (drop i l) 34) wh
       ∙ ap (λ (n : ℕ). eqb n 34 && same (drop (i + 1) l) []) (stop-quote (getD l i 0) (drop (i + 1) l) 34 s)
       ∙ same-none l i h)
 
-  form-front : (u .size ≡ 0 → ⊥) → formed (drop i l) ≡ prefixed (escape (u .byte)) (drop i l) && same (drop (length (escape (u .byte))) (drop i l)) (escaped (textOf (drop (i + u .size) l) 34) ++ 34 ∷ [])
+  form-front : (u .size ≡ 0 → ⊥) → formed (drop i l) ≡ prefixed (escape (u .byte)) (drop i l) && same (drop (length (escape (u .byte))) (drop i l)) (escaped (decoded (drop (i + u .size) l) 34) ++ 34 ∷ [])
   unfolding formed
   form-front n =
-      let t : List ℕ = textOf (drop (i + u .size) l) 34 in
+      let t : List ℕ = decoded (drop (i + u .size) l) 34 in
       ap (λ (x : List ℕ). same (drop i l) (escaped x ++ 34 ∷ [])) (text-on l 34 i u e n)
       ∙ ap (λ (x : List ℕ). same (drop i l) (x ++ 34 ∷ [])) (escaped-cons (u .byte) t)
       ∙ ap (same (drop i l)) (append-assoc (escape (u .byte)) (escaped t) (34 ∷ []))
       ∙ same-front (escape (u .byte)) (drop i l) (escaped t ++ 34 ∷ [])
 
   pub form-no : (u .size ≡ 0 → ⊥) → prefixed (escape (u .byte)) (drop i l) ≡ false → formed (drop i l) ≡ false
-  form-no n f = form-front n ∙ ap (λ (b : Bool). b && same (drop (length (escape (u .byte))) (drop i l)) (escaped (textOf (drop (i + u .size) l) 34) ++ 34 ∷ [])) f
+  form-no n f = form-front n ∙ ap (λ (b : Bool). b && same (drop (length (escape (u .byte))) (drop i l)) (escaped (decoded (drop (i + u .size) l) 34) ++ 34 ∷ [])) f
 
   pub form-on : (u .size ≡ 0 → ⊥) → prefixed (escape (u .byte)) (drop i l) ≡ true → formed (drop i l) ≡ formed (drop (i + u .size) l)
   unfolding formed
   form-on n f =
       let k : length (escape (u .byte)) ≡ u .size = written-size (u .byte) (drop i l) (λ z. n (ap (λ (w : Unit). w .size) e ∙ z)) f ∙ ap (λ (w : Unit). w .size) (sym e) in
       form-front n
-      ∙ ap (λ (b : Bool). b && same (drop (length (escape (u .byte))) (drop i l)) (escaped (textOf (drop (i + u .size) l) 34) ++ 34 ∷ [])) f
-      ∙ ap (λ (m : ℕ). same (drop m (drop i l)) (escaped (textOf (drop (i + u .size) l) 34) ++ 34 ∷ [])) k
-      ∙ ap (λ (m : List ℕ). same m (escaped (textOf (drop (i + u .size) l) 34) ++ 34 ∷ [])) (drop-drop (u .size) i l)
+      ∙ ap (λ (b : Bool). b && same (drop (length (escape (u .byte))) (drop i l)) (escaped (decoded (drop (i + u .size) l) 34) ++ 34 ∷ [])) f
+      ∙ ap (λ (m : ℕ). same (drop m (drop i l)) (escaped (decoded (drop (i + u .size) l) 34) ++ 34 ∷ [])) k
+      ∙ ap (λ (m : List ℕ). same m (escaped (decoded (drop (i + u .size) l) 34) ++ 34 ∷ [])) (drop-drop (u .size) i l)
 
 pub form-past : (l : List ℕ) (i : ℕ) → length l ≤ i → formed (drop i l) ≡ false
-unfolding formed textOf escaped same
+unfolding formed decoded escaped same
 form-past l i h = ap formed (drop-of-length-le l h)
 
 -- ---- a word, and a text between quotes
 
 module _ (w l : List ℕ) where
-  quoted-is : isQuoted w l ≡ (prefixed w l && formed (drop (length w) l)) && isValid (utf8Of l)
-  unfolding isQuoted formed
+  quoted-is : isQuotedLine w l ≡ (prefixed w l && formed (drop (length w) l)) && isValid (utf8Of l)
+  unfolding isQuotedLine formed
   quoted-is =
-      let t : List ℕ = textOf (drop (length w) l) 34 in
+      let t : List ℕ = decoded (drop (length w) l) 34 in
       ap (λ (b : Bool). b && isValid (utf8Of l)) (ap (same l) (append-assoc w (escaped t) (34 ∷ [])) ∙ same-front w l (escaped t ++ 34 ∷ []))
 
-  pub quoted-no-word : prefixed w l ≡ false → false ≡ isQuoted w l
+  pub quoted-no-word : prefixed w l ≡ false → false ≡ isQuotedLine w l
   quoted-no-word e = sym (quoted-is ∙ ap (λ (b : Bool). (b && formed (drop (length w) l)) && isValid (utf8Of l)) e)
 
-  pub quoted-no-form : prefixed w l ≡ true → formed (drop (length w) l) ≡ false → false ≡ isQuoted w l
+  pub quoted-no-form : prefixed w l ≡ true → formed (drop (length w) l) ≡ false → false ≡ isQuotedLine w l
   quoted-no-form e f = sym (quoted-is ∙ ap (λ (b : Bool). (b && formed (drop (length w) l)) && isValid (utf8Of l)) e ∙ ap (λ (b : Bool). b && isValid (utf8Of l)) f)
 
-  pub quoted-by : prefixed w l ≡ true → formed (drop (length w) l) ≡ true → isValid (utf8Of l) ≡ isQuoted w l
+  pub quoted-by : prefixed w l ≡ true → formed (drop (length w) l) ≡ true → isValid (utf8Of l) ≡ isQuotedLine w l
   quoted-by e f = sym (quoted-is ∙ ap (λ (b : Bool). (b && formed (drop (length w) l)) && isValid (utf8Of l)) e ∙ ap (λ (b : Bool). b && isValid (utf8Of l)) f)
 
 -- ---- a reference
@@ -228,28 +228,28 @@ module _ (l : List ℕ) (c : ℕ) (e : c ≡ colon l (length l)) where
   pub digits-at : part (c + 1) (length l) l ≡ drop (suc (colon l (length l))) l
   digits-at = rest-of l (c + 1) ∙ ap (λ (n : ℕ). drop n l) (add-one c ∙ ap suc e)
 
-  pub line-at : (v : ℕ) → v ≡ valueOf (readNumber (part (c + 1) (length l) l)) → v ≡ lineIn l
-  unfolding lineIn
+  pub line-at : (v : ℕ) → v ≡ valueOf (readNumber (part (c + 1) (length l) l)) → v ≡ lineNumber l
+  unfolding lineNumber
   line-at v f = f ∙ ap (λ (m : List ℕ). valueOf (readNumber m)) digits-at
 
   pub ref-no-name : isFileName (nameIn l) ≡ false → isReference l ≡ false
   unfolding isReference
-  ref-no-name f = ap (λ (b : Bool). same l (refLine (nameIn l) (lineIn l)) && b) f ∙ and-false (same l (refLine (nameIn l) (lineIn l)))
+  ref-no-name f = ap (λ (b : Bool). same l (refLine (nameIn l) (lineNumber l)) && b) f ∙ and-false (same l (refLine (nameIn l) (lineNumber l)))
 
-  ref-front : same l (refLine (nameIn l) (lineIn l)) ≡ prefixed refWord l && same (drop 3 l) (nameIn l ++ 58 ∷ decimal (lineIn l))
+  ref-front : same l (refLine (nameIn l) (lineNumber l)) ≡ prefixed refWord l && same (drop 3 l) (nameIn l ++ 58 ∷ decimal (lineNumber l))
   ref-front =
-      let ds : List ℕ = decimal (lineIn l) in
+      let ds : List ℕ = decimal (lineNumber l) in
       ap (same l) (append-assoc (refWord ++ nameIn l) (58 ∷ []) ds ∙ append-assoc refWord (nameIn l) (58 ∷ ds)) ∙ same-front refWord l (nameIn l ++ 58 ∷ ds)
 
   pub ref-no-word : prefixed refWord l ≡ false → isReference l ≡ false
   unfolding isReference
-  ref-no-word f = ap (λ (b : Bool). b && isFileName (nameIn l)) (ref-front ∙ ap (λ (b : Bool). b && same (drop 3 l) (nameIn l ++ 58 ∷ decimal (lineIn l))) f)
+  ref-no-word f = ap (λ (b : Bool). b && isFileName (nameIn l)) (ref-front ∙ ap (λ (b : Bool). b && same (drop 3 l) (nameIn l ++ 58 ∷ decimal (lineNumber l))) f)
 
-  ref-rest : isFileName (nameIn l) ≡ true → same (drop 3 l) (nameIn l ++ 58 ∷ decimal (lineIn l)) ≡ same (drop (suc (colon l (length l))) l) (decimal (lineIn l))
+  ref-rest : isFileName (nameIn l) ≡ true → same (drop 3 l) (nameIn l ++ 58 ∷ decimal (lineNumber l)) ≡ same (drop (suc (colon l (length l))) l) (decimal (lineNumber l))
   unfolding nameIn same
   ref-rest f =
       let k : ℕ = colon l (length l) in
-      let ds : List ℕ = decimal (lineIn l) in
+      let ds : List ℕ = decimal (lineNumber l) in
       let some : 0 < length (take (k - 3) (drop 3 l)) = name-some (take (k - 3) (drop 3 l)) f in
       let t = length-take (k - 3) (drop 3 l) in
       let d = length-drop 3 l in
@@ -271,7 +271,7 @@ module _ (l : List ℕ) (c : ℕ) (e : c ≡ colon l (length l)) where
       q
       ∙ ap (λ (m : List ℕ). same m (decimal v)) digits-at
       ∙ ap (λ (n : ℕ). same (drop (suc (colon l (length l))) l) (decimal n)) (line-at v p)
-      ∙ sym (ap (λ (a : Bool). same l (refLine (nameIn l) (lineIn l)) && a) f ∙ and-true (same l (refLine (nameIn l) (lineIn l))) ∙ ref-front ∙ ap (λ (a : Bool). a && same (drop 3 l) (nameIn l ++ 58 ∷ decimal (lineIn l))) g ∙ ref-rest f)
+      ∙ sym (ap (λ (a : Bool). same l (refLine (nameIn l) (lineNumber l)) && a) f ∙ and-true (same l (refLine (nameIn l) (lineNumber l))) ∙ ref-front ∙ ap (λ (a : Bool). a && same (drop 3 l) (nameIn l ++ 58 ∷ decimal (lineNumber l))) g ∙ ref-rest f)
 
 -- ---- names above
 
@@ -300,10 +300,10 @@ module _ (name : List ℕ) (least : ℕ) (l : List ℕ) (c : ℕ) (e : c ≡ col
   kept-is = k ∙ ap (λ (x : List ℕ). empty name || same name x) (z ∙ name-at l c e)
 
   pub next-no : b ≡ false → false ≡ follows name least l
-  next-no f = sym (ap (λ (x : Bool). x && leb least (lineIn l)) (sym kept-is ∙ f))
+  next-no f = sym (ap (λ (x : Bool). x && leb least (lineNumber l)) (sym kept-is ∙ f))
 
   pub next-by : b ≡ true → (d : List ℕ) → d ≡ part (c + 1) (length l) l → (v : ℕ) → v ≡ valueOf (readNumber d) → leb least v ≡ follows name least l
-  next-by f d q v p = ap (leb least) (line-at l c e v (p ∙ ap (λ (x : List ℕ). valueOf (readNumber x)) q)) ∙ sym (ap (λ (x : Bool). x && leb least (lineIn l)) (sym kept-is ∙ f))
+  next-by f d q v p = ap (leb least) (line-at l c e v (p ∙ ap (λ (x : List ℕ). valueOf (readNumber x)) q)) ∙ sym (ap (λ (x : Bool). x && leb least (lineNumber l)) (sym kept-is ∙ f))
 
 module _ (l : List ℕ) (c : ℕ) (e : c ≡ colon l (length l)) (m : List ℕ) (z : m ≡ part 3 c l) (b : Bool) (k : b ≡ isFileName m) where
   named-is : b ≡ isFileName (nameIn l)

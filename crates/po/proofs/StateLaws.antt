@@ -20,11 +20,11 @@ use Rattle.po.specs.declared.Line.{Line}
 use Rattle.po.specs.declared.Strings.{Strings}
 use Rattle.po.specs.declared.Strings.the-variants as strings
 use Rattle.lines.specs.Ascii.{ascii}
-use Rattle.po.specs.Found.{textOf, known, empty}
+use Rattle.po.specs.Found.{decoded, known, empty}
 use Rattle.text.specs.Utf8Form.{utf8Of}
 use Rattle.po.specs.Form.{idWord, strWord, typeLine, escape, escaped, quoted, refLine}
 use Rattle.po.specs.Name.{isFileName}
-use Rattle.po.specs.Reader.{State, start, Read, bad, good, isValid, colon, valueOf, quotedText, isQuoted, nameIn, lineIn, isRef, isId, awaited, onward, readGo, readOf, packed, lowBytes, given}
+use Rattle.po.specs.Reader.{State, start, Read, bad, good, isValid, colon, valueOf, quotedText, isQuotedLine, nameIn, lineNumber, isRef, isId, awaited, onward, readGo, readOf, packed, lowBytes, given}
 use Rattle.po.specs.Answers.{readText, byRead, readAnswer, stringsNumber}
 use Rattle.po.specs.Inner.ReadWalk.{isReference, follows, nextOf, after, stateAt, sameId, met, givesOne, gives, At, isGood, verdict}
 use Rattle.names.specs.Names.{readNumber}
@@ -38,7 +38,7 @@ use Rattle.po.proofs.LineLaws.{empty-yes, empty-no, colon-le, name-at, 
 -- ---- one step
 
 abbrev refd : State → List ℕ → State
-refd s l = record { awaits = 5; name = nameIn l; least = lineIn l; ids = s .ids; strs = s .strs }
+refd s l = record { awaits = 5; name = nameIn l; least = lineNumber l; ids = s .ids; strs = s .strs }
 
 abbrev ided : State → List ℕ → State
 ided s l = record { awaits = 6; name = s .name; least = s .least; ids = quotedText idWord l ∷ s .ids; strs = s .strs }
@@ -80,7 +80,7 @@ module _ (s : State) (l : List ℕ) where
   pub on-name : s .awaits ≡ 4 → onward s l .name ≡ nameIn l
   on-name e = ap (λ (t : State). t .name) step-is ∙ ap (λ (a : Bool). cond a (refd s l) (cond (eqb (s .awaits) 5) (ided s l) (cond (eqb (s .awaits) 6) (stred s l) (passed s))) .name) (eq-eqb (s .awaits) 4 e)
 
-  pub on-least : s .awaits ≡ 4 → onward s l .least ≡ lineIn l
+  pub on-least : s .awaits ≡ 4 → onward s l .least ≡ lineNumber l
   on-least e = ap (λ (t : State). t .least) step-is ∙ ap (λ (a : Bool). cond a (refd s l) (cond (eqb (s .awaits) 5) (ided s l) (cond (eqb (s .awaits) 6) (stred s l) (passed s))) .least) (eq-eqb (s .awaits) 4 e)
 
   pub keep-name : (s .awaits ≡ 4 → ⊥) → onward s l .name ≡ s .name
@@ -267,7 +267,7 @@ module _ {file : List ℕ} {r : Line} (v : At file r) (more : r .end < length fi
       let x : List ℕ = part (r .at) (r .end) file in
       let h : c ≤ r .end - r .at = let t = ap length is-l in omega (arith, colon-le l (length l), part-short file (r .at) (r .end)) in
       let f : part 3 c x ≡ nameIn x = ap (λ (y : List ℕ). part 3 c y) (sym is-l) ∙ name-at l c is-c ∙ ap nameIn is-l in
-      let g : n ≡ lineIn x = line-at l c is-c n (is-n ∙ ap (λ (y : List ℕ). valueOf (readNumber y)) is-d) ∙ ap lineIn is-l in
+      let g : n ≡ lineNumber x = line-at l c is-c n (is-n ∙ ap (λ (y : List ℕ). valueOf (readNumber y)) is-d) ∙ ap lineNumber is-l in
       record {
         inside = omega arith;
         ends = q;
@@ -303,7 +303,7 @@ module _ {file : List ℕ} {r : Line} (v : At file r) (more : r .end < length fi
 module _ (s : State) (l : List ℕ) where
   pub ref-awaited : (name : List ℕ) (least : ℕ) → name ≡ s .name → least ≡ s .least → isReference l && follows name least l ≡ isRef s l
   unfolding isReference isRef
-  ref-awaited name least e f = rw (e, f) (assoc (same l (refLine (nameIn l) (lineIn l))) (isFileName (nameIn l)) ((empty (s .name) || same (s .name) (nameIn l)) && leb (s .least) (lineIn l)))
+  ref-awaited name least e f = rw (e, f) (assoc (same l (refLine (nameIn l) (lineNumber l))) (isFileName (nameIn l)) ((empty (s .name) || same (s .name) (nameIn l)) && leb (s .least) (lineNumber l)))
     where
       assoc : (a b c : Bool) → (a && b) && c ≡ a && (b && c)
       assoc true b c = refl
@@ -333,7 +333,7 @@ module _ (s : State) (l : List ℕ) where
   unfolding awaited
   await-5 e = rw e refl
 
-  pub await-6 : s .awaits ≡ 6 → isQuoted strWord l ≡ awaited s l
+  pub await-6 : s .awaits ≡ 6 → isQuotedLine strWord l ≡ awaited s l
   unfolding awaited
   await-6 e = rw e refl
 
@@ -363,14 +363,14 @@ pub packed-length : (t : List ℕ) → length (packed t) ≡ 8 + length t
 packed-length t = length-append (lowBytes 8 (length t)) t ∙ ap (λ (n : ℕ). n + length t) (low-length 8 (length t))
 
 -- a text is given in no more bytes than its line has with its LF
-quoted-room : (w l : List ℕ) → 7 ≤ length w → isQuoted w l ≡ true → length (packed (quotedText w l)) ≤ length l + 1
-unfolding isQuoted
+quoted-room : (w l : List ℕ) → 7 ≤ length w → isQuotedLine w l ≡ true → length (packed (quotedText w l)) ≤ length l + 1
+unfolding isQuotedLine
 quoted-room w l h e =
     let t : List ℕ = quotedText w l in
     let q = ap length (same-eq l (quoted w t) (and-left (same l (quoted w t)) (isValid (utf8Of l)) e)) in
     omega (arith, packed-length t, escaped-long t, length-append (w ++ escaped t) (34 ∷ []), length-append w (escaped t))
 
-id-is : (s : State) (l : List ℕ) → isQuoted idWord l && (not (empty (quotedText idWord l)) && not (known (s .ids) (quotedText idWord l))) ≡ isId s l
+id-is : (s : State) (l : List ℕ) → isQuotedLine idWord l && (not (empty (quotedText idWord l)) && not (known (s .ids) (quotedText idWord l))) ≡ isId s l
 unfolding isId
 id-is s l = refl
 
@@ -378,7 +378,7 @@ pub line-room : (s : State) (l : List ℕ) → awaited s l ≡ true → length (
 line-room s l e = go (eqb (s .awaits) 5) refl (eqb (s .awaits) 6) refl
   where
     five : isId s l ≡ true → length (packed (quotedText idWord l)) ≤ length l + 1
-    five f = quoted-room idWord l (omega arith) (and-left (isQuoted idWord l) (not (empty (quotedText idWord l)) && not (known (s .ids) (quotedText idWord l))) (id-is s l ∙ f))
+    five f = quoted-room idWord l (omega arith) (and-left (isQuotedLine idWord l) (not (empty (quotedText idWord l)) && not (known (s .ids) (quotedText idWord l))) (id-is s l ∙ f))
 
     go : (a : Bool) → eqb (s .awaits) 5 ≡ a → (b : Bool) → eqb (s .awaits) 6 ≡ b → length (cond a (packed (quotedText idWord l)) (cond b (packed (quotedText strWord l)) [])) ≤ length l + 1
     go true f b g = five (await-5 s l (eqb-true (s .awaits) 5 f) ∙ e)
@@ -387,32 +387,32 @@ line-room s l e = go (eqb (s .awaits) 5) refl (eqb (s .awaits) 6) refl
 
 -- what a line gives, by what is awaited
 module _ (w : ℕ) (l m : List ℕ) where
-  pub gives-5 : w ≡ 5 → m ≡ part 7 (length l) l → packed (textOf m 34) ≡ givesOne w l
-  gives-5 e q = ap (λ (x : List ℕ). packed (textOf x 34)) (q ∙ rest-of l 7) ∙ sym (ap (λ (k : ℕ). givesOne k l) e)
+  pub gives-5 : w ≡ 5 → m ≡ part 7 (length l) l → packed (decoded m 34) ≡ givesOne w l
+  gives-5 e q = ap (λ (x : List ℕ). packed (decoded x 34)) (q ∙ rest-of l 7) ∙ sym (ap (λ (k : ℕ). givesOne k l) e)
 
-  pub gives-6 : w ≡ 6 → m ≡ part 8 (length l) l → packed (textOf m 34) ≡ givesOne w l
-  gives-6 e q = ap (λ (x : List ℕ). packed (textOf x 34)) (q ∙ rest-of l 8) ∙ sym (ap (λ (k : ℕ). givesOne k l) e)
+  pub gives-6 : w ≡ 6 → m ≡ part 8 (length l) l → packed (decoded m 34) ≡ givesOne w l
+  gives-6 e q = ap (λ (x : List ℕ). packed (decoded x 34)) (q ∙ rest-of l 8) ∙ sym (ap (λ (k : ℕ). givesOne k l) e)
 
 pub gives-none : (w : ℕ) (l : List ℕ) → (w ≡ 5 → ⊥) → (w ≡ 6 → ⊥) → givesOne w l ≡ []
 gives-none w l n m = ap (λ (a : Bool). cond a (packed (quotedText idWord l)) (cond (eqb w 6) (packed (quotedText strWord l)) [])) (ne-eqb w 5 n) ∙ ap (λ (a : Bool). cond a (packed (quotedText strWord l)) []) (ne-eqb w 6 m)
 
 -- a msgid, by its tests
 module _ (s : State) (l : List ℕ) where
-  pub id-no-form : isQuoted idWord l ≡ false → false ≡ isId s l
+  pub id-no-form : isQuotedLine idWord l ≡ false → false ≡ isId s l
   id-no-form f = sym (ap (λ (b : Bool). b && (not (empty (quotedText idWord l)) && not (known (s .ids) (quotedText idWord l)))) f) ∙ id-is s l
 
-  module _ (f : isQuoted idWord l ≡ true) (m : List ℕ) (q : m ≡ part 7 (length l) l) (u : Unit) (e : u ≡ unitOf (drop 0 m) 34) where
-    id-text : textOf m 34 ≡ quotedText idWord l
-    id-text = ap (λ (x : List ℕ). textOf x 34) (q ∙ rest-of l 7)
+  module _ (f : isQuotedLine idWord l ≡ true) (m : List ℕ) (q : m ≡ part 7 (length l) l) (u : Unit) (e : u ≡ unitOf (drop 0 m) 34) where
+    id-text : decoded m 34 ≡ quotedText idWord l
+    id-text = ap (λ (x : List ℕ). decoded x 34) (q ∙ rest-of l 7)
 
-    id-so : not (empty (textOf m 34)) && not (known (s .ids) (textOf m 34)) ≡ isId s l
+    id-so : not (empty (decoded m 34)) && not (known (s .ids) (decoded m 34)) ≡ isId s l
     id-so = ap (λ (x : List ℕ). not (empty x) && not (known (s .ids) x)) id-text ∙ sym (ap (λ (b : Bool). b && (not (empty (quotedText idWord l)) && not (known (s .ids) (quotedText idWord l)))) f) ∙ id-is s l
 
     pub id-empty : u .size ≡ 0 → false ≡ isId s l
     id-empty z = ap (λ (x : List ℕ). not (empty x) && not (known (s .ids) x)) (sym (text-stop m 34 0 u e z)) ∙ id-so
 
-    pub id-by : (u .size ≡ 0 → ⊥) → (b : Bool) → b ≡ known (s .ids) (textOf m 34) → not b ≡ isId s l
-    id-by n b k = ap not k ∙ sym (ap (λ (x : List ℕ). not (empty x) && not (known (s .ids) (textOf m 34))) (text-on m 34 0 u e n)) ∙ id-so
+    pub id-by : (u .size ≡ 0 → ⊥) → (b : Bool) → b ≡ known (s .ids) (decoded m 34) → not b ≡ isId s l
+    id-by n b k = ap not k ∙ sym (ap (λ (x : List ℕ). not (empty x) && not (known (s .ids) (decoded m 34))) (text-on m 34 0 u e n)) ∙ id-so
 
 -- a number in bytes
 module _ (k m : ℕ) (h : k < 8) where
@@ -764,8 +764,8 @@ module _ {file own : List ℕ} (s : State) (l : List ℕ) where
   ids-more m q e w = subst (λ (ids : List (List ℕ)). Tells file own ids) (ap (λ (x : List ℕ). quotedText idWord x ∷ s .ids) q ∙ sym (on-ids s l ∙ ap (λ (b : Bool). cond b (quotedText idWord l ∷ s .ids) (s .ids)) (eq-eqb (s .awaits) 5 e))) w
 
   -- a msgid's text, as the code cuts it
-  pub ids-text : (m : List ℕ) → m ≡ part 7 (length l) l → Tells file own (textOf m 34 ∷ s .ids) → Tells file own (quotedText idWord l ∷ s .ids)
-  ids-text m q w = subst (λ (x : List ℕ). Tells file own (textOf x 34 ∷ s .ids)) (q ∙ rest-of l 7) w
+  pub ids-text : (m : List ℕ) → m ≡ part 7 (length l) l → Tells file own (decoded m 34 ∷ s .ids) → Tells file own (quotedText idWord l ∷ s .ids)
+  ids-text m q w = subst (λ (x : List ℕ). Tells file own (decoded x 34 ∷ s .ids)) (q ∙ rest-of l 7) w
 
 -- at the next line
 pub ids-on : {file own : List ℕ} {r : Line} → At file r → r .end < length file → (n : ℕ) → n ≡ r .number + 1 → Tells file own (onward (stateAt file (r .number)) (part (r .at) (r .end) file) .ids) → Tells file own (stateAt file n .ids)

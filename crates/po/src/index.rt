@@ -6,7 +6,7 @@ ghost use mathlib.Core.Path.{_≡_};
 ghost use Prim.Native.Nat.{_<_};
 ghost use lib.ListN.{length, set};
 ghost use Rattle.lines.specs.Lf.{same};
-ghost use Rattle.po.specs.Found.{textOf};
+ghost use Rattle.po.specs.Found.{decoded};
 ghost use Rattle.po.specs.Inner.Index.{keyAt, hashOf, seekOf, hintOf, freeOr, entered};
 
 const BASE: usize = 65599;
@@ -15,7 +15,7 @@ const PRIME: usize = 4294967291;
 
 // A number of a text, by which its place in the table is chosen.
 fn hash_text(s: &[u8], q: u8) -> usize
-    ensures { λ r. ⌜ r ≡ hashOf 0 (textOf (now (s .entry)) q) ⌝ }
+    ensures { λ r. ⌜ r ≡ hashOf 0 (decoded (now (s .entry)) q) ⌝ }
 {
     let mut h = 0;
     let mut i = 0;
@@ -33,14 +33,14 @@ fn hash_text(s: &[u8], q: u8) -> usize
 // Whether a text is that of the literal whose quote stands at a place.
 fn is_at(t: &[u8], p: usize, s: &[u8], q: u8) -> bool
     requires { ⌜ p < length (now t) ⌝ }
-    ensures { λ r. ⌜ r ≡ same (keyAt (now (t .entry)) p) (textOf (now (s .entry)) q) ⌝ }
+    ensures { λ r. ⌜ r ≡ same (keyAt (now (t .entry)) p) (decoded (now (s .entry)) q) ⌝ }
 {
     same_text(lines::cut(t, p + 1, t.len()), lines::byte_at(t, p), s, q)
 }
 
 // Where a text stands in the table, or might.
 fn seek(t: &[u8], own: &[usize], s: &[u8], q: u8) -> Seek
-    ensures { λ r. ⌜ r ≡ seekOf (now (t .entry)) (now (own .entry)) (textOf (now (s .entry)) q) ⌝ }
+    ensures { λ r. ⌜ r ≡ seekOf (now (t .entry)) (now (own .entry)) (decoded (now (s .entry)) q) ⌝ }
 {
     if own.len() == 0 {
         return Seek::Unsure;
@@ -64,7 +64,7 @@ fn seek(t: &[u8], own: &[usize], s: &[u8], q: u8) -> Seek
 
 // The entry of a text whose literal's quote stands at a place: one that says nothing, where the literal is not closed on its line.
 fn hint_of(t: &[u8], p: usize, s: &[u8], q: u8) -> usize
-    ensures { λ r. ⌜ r ≡ hintOf (now (t .entry)) p (textOf (now (s .entry)) q) ⌝ }
+    ensures { λ r. ⌜ r ≡ hintOf (now (t .entry)) p (decoded (now (s .entry)) q) ⌝ }
 {
     if t.len() <= p {
         return t.len() + 1;
@@ -98,8 +98,8 @@ fn put_entry(own: &mut [usize], i: usize, v: usize)
 
 // Looks for a text, and enters it where its place is free.
 pub fn meet(t: &[u8], p: usize, s: &[u8], q: u8, own: &mut [usize]) -> Seek
-    ensures { λ r. ⌜ r ≡ seekOf (now (t .entry)) (now (own .entry)) (textOf (now (s .entry)) q) ⌝ }
-    ensures { λ _. ⌜ now (own .exit) ≡ entered (now (t .entry)) p (textOf (now (s .entry)) q) (now (own .entry)) ⌝ }
+    ensures { λ r. ⌜ r ≡ seekOf (now (t .entry)) (now (own .entry)) (decoded (now (s .entry)) q) ⌝ }
+    ensures { λ _. ⌜ now (own .exit) ≡ entered (now (t .entry)) p (decoded (now (s .entry)) q) (now (own .entry)) ⌝ }
 {
     let found = seek(t, own, s, q);
     let i = free_or(found, own.len());

@@ -17,10 +17,10 @@ ghost use Rattle.lines.specs.Lf.{part, same, prefixed, upTo, partsOf};
 ghost use Rattle.lines.specs.Inner.Out.{Wrote};
 ghost use Rattle.text.specs.Utf8Form.{utf8Of};
 ghost use Rattle.names.specs.Names.{decimal, readNumber};
-ghost use Rattle.po.specs.Found.{textOf, known, empty};
+ghost use Rattle.po.specs.Found.{decoded, known, empty};
 ghost use Rattle.po.specs.Form.{idWord, escape};
 ghost use Rattle.po.specs.Name.{isFileName};
-ghost use Rattle.po.specs.Reader.{isValid, isQuoted, quotedText, colon, valueOf, nameIn, lineIn, isId, awaited, onward, lowBytes, packed, readOf};
+ghost use Rattle.po.specs.Reader.{isValid, isQuotedLine, quotedText, colon, valueOf, nameIn, lineNumber, isId, awaited, onward, lowBytes, packed, readOf};
 ghost use Rattle.po.specs.Inner.Index.{Tells};
 ghost use Rattle.po.specs.Inner.ReadWalk.{formed, isReference, follows, nextOf, stateAt, givesOne, gives, sameId, At, verdict};
 
@@ -82,7 +82,7 @@ fn is_formed(l: &[u8], a: usize) -> bool
 
 // Whether a line is a word, with its quote, and a text as it is written.
 fn is_quoted(w: &[u8], l: &[u8]) -> bool
-    ensures { λ r. ⌜ r ≡ isQuoted (now (w .entry)) (now (l .entry)) ⌝ }
+    ensures { λ r. ⌜ r ≡ isQuotedLine (now (w .entry)) (now (l .entry)) ⌝ }
 {
     if !lines::starts_with(l, w) {
         return false;
@@ -201,7 +201,7 @@ fn next_awaited(w: usize) -> usize
 
 // Whether a text is that of a msgid among the first `k` lines of a file.
 fn is_above(file: &[u8], k: usize, s: &[u8]) -> bool
-    ensures { λ r. ⌜ r ≡ known (stateAt (now (file .entry)) k .ids) (textOf (now (s .entry)) 34) ⌝ }
+    ensures { λ r. ⌜ r ≡ known (stateAt (now (file .entry)) k .ids) (decoded (now (s .entry)) 34) ⌝ }
 {
     let mut i = 0;
     let mut w = 0;
@@ -223,7 +223,7 @@ fn is_above(file: &[u8], k: usize, s: &[u8]) -> bool
 
 // Whether a line is a msgid of the same text.
 fn is_same_id(w: usize, l: &[u8], s: &[u8]) -> bool
-    ensures { λ r. ⌜ r ≡ sameId w (now (l .entry)) (textOf (now (s .entry)) 34) ⌝ }
+    ensures { λ r. ⌜ r ≡ sameId w (now (l .entry)) (decoded (now (s .entry)) 34) ⌝ }
 {
     if w == 5 {
         return same_text(lines::cut(l, ID_WORD, l.len()), QUOTE, s, QUOTE);
@@ -234,8 +234,8 @@ fn is_same_id(w: usize, l: &[u8], s: &[u8]) -> bool
 // Whether a text, whose literal's quote stands at a place, is that of a msgid among the first `k` lines; the table tells then of this one too.
 fn is_met(file: &[u8], k: usize, p: usize, s: &[u8], own: &mut [usize]) -> bool
     requires { ⌜ Tells (now file) (now own) (stateAt (now file) k .ids) ⌝ }
-    ensures { λ r. ⌜ r ≡ known (stateAt (now (file .entry)) k .ids) (textOf (now (s .entry)) 34) ⌝ }
-    ensures { λ _. ⌜ Tells (now (file .entry)) (now (own .exit)) (textOf (now (s .entry)) 34 ∷ stateAt (now (file .entry)) k .ids) ⌝ }
+    ensures { λ r. ⌜ r ≡ known (stateAt (now (file .entry)) k .ids) (decoded (now (s .entry)) 34) ⌝ }
+    ensures { λ _. ⌜ Tells (now (file .entry)) (now (own .exit)) (decoded (now (s .entry)) 34 ∷ stateAt (now (file .entry)) k .ids) ⌝ }
 {
     match index::meet(file, p, s, QUOTE, own) {
         Seek::Held => true,
@@ -339,7 +339,7 @@ fn line_after(file: &[u8], r: Line) -> Line
 
 // How long the text of a literal is.
 fn plain_len(s: &[u8], q: u8) -> usize
-    ensures { λ r. ⌜ r ≡ length (textOf (now (s .entry)) q) ⌝ }
+    ensures { λ r. ⌜ r ≡ length (decoded (now (s .entry)) q) ⌝ }
 {
     let mut n = 0;
     let mut i = 0;
@@ -408,8 +408,8 @@ fn put_size(out: &mut [u8], o: usize, n: usize) -> usize
 
 // Writes the text of a literal, and returns the place after it.
 fn put_plain(out: &mut [u8], o: usize, s: &[u8], q: u8) -> usize
-    requires { ⌜ o + length (textOf (now s) q) ≤ length (now out) ⌝ }
-    ensures { λ r. ⌜ Wrote (now (out .entry)) o (textOf (now (s .entry)) q) (now (out .exit)) r ⌝ }
+    requires { ⌜ o + length (decoded (now s) q) ≤ length (now out) ⌝ }
+    ensures { λ r. ⌜ Wrote (now (out .entry)) o (decoded (now (s .entry)) q) (now (out .exit)) r ⌝ }
 {
     let mut p = o;
     let mut i = 0;
@@ -426,8 +426,8 @@ fn put_plain(out: &mut [u8], o: usize, s: &[u8], q: u8) -> usize
 
 // Writes the text of a literal behind its length, and returns the place after it.
 fn put_packed(out: &mut [u8], o: usize, s: &[u8], q: u8) -> usize
-    requires { ⌜ o + length (packed (textOf (now s) q)) ≤ length (now out) ⌝ }
-    ensures { λ r. ⌜ Wrote (now (out .entry)) o (packed (textOf (now (s .entry)) q)) (now (out .exit)) r ⌝ }
+    requires { ⌜ o + length (packed (decoded (now s) q)) ≤ length (now out) ⌝ }
+    ensures { λ r. ⌜ Wrote (now (out .entry)) o (packed (decoded (now (s .entry)) q)) (now (out .exit)) r ⌝ }
 {
     let p = put_size(out, o, plain_len(s, q));
     put_plain(out, p, s, q)

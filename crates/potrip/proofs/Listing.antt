@@ -16,7 +16,7 @@ use Rattle.text.specs.Utf8Form.{utf8Of}
 use Rattle.text.specs.declared.Utf8.the-variants.{Valid}
 use Rattle.po.specs.declared.Flaw.{Flaw}
 use Rattle.po.specs.declared.Flaw.the-variants as flaw
-use Rattle.po.specs.Found.{closed, odds, Spot, spotsGo, spotsOf, spots, spotText, Entry, known, leftOut, firsts, entries}
+use Rattle.po.specs.Found.{isClosed, odds, Literal, literalsGo, literalsOf, literals, literalText, Entry, known, leftOut, firsts, entries}
 use Rattle.po.specs.Form.{escaped}
 use Rattle.po.specs.Answers.{flawIn, orElse, firstFlaw}
 use Rattle.po.proofs.IndexLaws.{known-last}
@@ -40,13 +40,13 @@ unfolding quoteLen
 quote-end [] = refl
 quote-end (y ∷ l) = refl
 
-closed-other : (x : ℕ) (l : List ℕ) (q : ℕ) → eqb x 92 ≡ false → eqb x q ≡ false → closed (x ∷ l) q ≡ closed l q
-unfolding closed
+closed-other : (x : ℕ) (l : List ℕ) (q : ℕ) → eqb x 92 ≡ false → eqb x q ≡ false → isClosed (x ∷ l) q ≡ isClosed l q
+unfolding isClosed
 closed-other x [] q e f = f
 closed-other x (y ∷ l) q e f = rw (e, f) refl
 
-closed-end : (l : List ℕ) → closed (34 ∷ l) 34 ≡ true
-unfolding closed
+closed-end : (l : List ℕ) → isClosed (34 ∷ l) 34 ≡ true
+unfolding isClosed
 closed-end [] = refl
 closed-end (y ∷ l) = refl
 
@@ -74,13 +74,13 @@ quote-escaped (b ∷ bs) l = go (eqb b 10) (eqb b 9) (eqb b 34) refl (eqb b 92) 
     go false false false f true g ih = ap (λ (n : ℕ). suc (suc n)) ih
     go false false false f false g ih = quote-other b (escaped bs ++ 34 ∷ l) 34 g f ∙ ap suc ih
 
-closed-escaped : (x l : List ℕ) → closed (escaped x ++ 34 ∷ l) 34 ≡ true
-unfolding escaped closed
+closed-escaped : (x l : List ℕ) → isClosed (escaped x ++ 34 ∷ l) 34 ≡ true
+unfolding escaped isClosed
 closed-escaped [] l = closed-end l
 closed-escaped (b ∷ bs) l = go (eqb b 10) (eqb b 9) (eqb b 34) refl (eqb b 92) refl (closed-escaped bs l)
   where
-    go : (p q s : Bool) → eqb b 34 ≡ s → (u : Bool) → eqb b 92 ≡ u → closed (escaped bs ++ 34 ∷ l) 34 ≡ true →
-        closed ((cond p (92 ∷ 110 ∷ []) (cond q (92 ∷ 116 ∷ []) (cond s (92 ∷ 34 ∷ []) (cond u (92 ∷ 92 ∷ []) (b ∷ [])))) ++ escaped bs) ++ 34 ∷ l) 34 ≡ true
+    go : (p q s : Bool) → eqb b 34 ≡ s → (u : Bool) → eqb b 92 ≡ u → isClosed (escaped bs ++ 34 ∷ l) 34 ≡ true →
+        isClosed ((cond p (92 ∷ 110 ∷ []) (cond q (92 ∷ 116 ∷ []) (cond s (92 ∷ 34 ∷ []) (cond u (92 ∷ 92 ∷ []) (b ∷ [])))) ++ escaped bs) ++ 34 ∷ l) 34 ≡ true
     go true q s f u g ih = ih
     go false true s f u g ih = ih
     go false false true f u g ih = ih
@@ -106,32 +106,32 @@ lit-fine x l place = rw (closed-escaped x l, odds-escaped x l (suc place)) refl
 
 -- ---- literals, one for each entry
 
-pub data Lits : List Entry → List Spot → Type 0 where
+pub data Lits : List Entry → List Literal → Type 0 where
   no-lit : Lits [] []
-  lit-on : (e : Entry) (s : Spot) {es : List Entry} {ss : List Spot} → s .line ≡ e .line → spotText s ≡ e .text → flawIn (s .rest) (s .quote) (s .place) ≡ flaw.None → Lits es ss → Lits (e ∷ es) (s ∷ ss)
+  lit-on : (e : Entry) (s : Literal) {es : List Entry} {ss : List Literal} → s .line ≡ e .line → literalText s ≡ e .text → flawIn (s .rest) (s .quote) (s .place) ≡ flaw.None → Lits es ss → Lits (e ∷ es) (s ∷ ss)
 
 -- a text as a literal, with what follows it on its line
 abbrev litOn : List ℕ → List ℕ → List ℕ
 litOn x l = 34 ∷ (escaped x ++ 34 ∷ l)
 
-skip : (n : ℕ) (ys l out : List ℕ) (i : ℕ) → spotsGo n (ys ++ l) (length ys) out i ≡ spotsGo n l 0 out (i + length ys)
-unfolding spotsGo
-skip n [] l out i = let z : i ≡ i + 0 = omega arith in ap (spotsGo n l 0 out) z
-skip n (y ∷ ys) l out i = let z : suc i + length ys ≡ i + suc (length ys) = omega arith in skip n ys l out (suc i) ∙ ap (spotsGo n l 0 out) z
+skip : (n : ℕ) (ys l out : List ℕ) (i : ℕ) → literalsGo n (ys ++ l) (length ys) out i ≡ literalsGo n l 0 out (i + length ys)
+unfolding literalsGo
+skip n [] l out i = let z : i ≡ i + 0 = omega arith in ap (literalsGo n l 0 out) z
+skip n (y ∷ ys) l out i = let z : suc i + length ys ≡ i + suc (length ys) = omega arith in skip n ys l out (suc i) ∙ ap (literalsGo n l 0 out) z
 
 -- where what follows has the rest of the entries, the literal in front of it has this one
-module _ (n : ℕ) (e : Entry) (h : n ≡ e .line) (l : List ℕ) (more : List Spot) {es : List Entry} where
-  lit-here : (out : List ℕ) (i : ℕ) → Lits es (spotsGo n l 0 (out ++ 83 ∷ []) (suc i + length (escaped (e .text) ++ 34 ∷ [])) ++ more) → Lits (e ∷ es) (spotsGo n (litOn (e .text) l) 0 out i ++ more)
-  unfolding spotsGo tokenOf
+module _ (n : ℕ) (e : Entry) (h : n ≡ e .line) (l : List ℕ) (more : List Literal) {es : List Entry} where
+  lit-here : (out : List ℕ) (i : ℕ) → Lits es (literalsGo n l 0 (out ++ 83 ∷ []) (suc i + length (escaped (e .text) ++ 34 ∷ [])) ++ more) → Lits (e ∷ es) (literalsGo n (litOn (e .text) l) 0 out i ++ more)
+  unfolding literalsGo tokenOf
   lit-here out i w =
       let x : List ℕ = e .text in
       let q : quoteLen (escaped x ++ 34 ∷ l) 34 ≡ length (escaped x ++ 34 ∷ []) = let z = length-append (escaped x) (34 ∷ []) in quote-escaped x l ∙ omega (arith, z) in
       let z : suc (quoteLen (escaped x ++ 34 ∷ l) 34) - 1 ≡ length (escaped x ++ 34 ∷ []) = omega (arith, q) in
-      let a : spotsGo n (escaped x ++ 34 ∷ l) (suc (quoteLen (escaped x ++ 34 ∷ l) 34) - 1) (out ++ 83 ∷ []) (suc i) ≡ spotsGo n l 0 (out ++ 83 ∷ []) (suc i + length (escaped x ++ 34 ∷ [])) =
-      ap (λ (k : ℕ). spotsGo n (escaped x ++ 34 ∷ l) k (out ++ 83 ∷ []) (suc i)) z
-      ∙ ap (λ (m : List ℕ). spotsGo n m (length (escaped x ++ 34 ∷ [])) (out ++ 83 ∷ []) (suc i)) (sym (append-assoc (escaped x) (34 ∷ []) l))
+      let a : literalsGo n (escaped x ++ 34 ∷ l) (suc (quoteLen (escaped x ++ 34 ∷ l) 34) - 1) (out ++ 83 ∷ []) (suc i) ≡ literalsGo n l 0 (out ++ 83 ∷ []) (suc i + length (escaped x ++ 34 ∷ [])) =
+      ap (λ (k : ℕ). literalsGo n (escaped x ++ 34 ∷ l) k (out ++ 83 ∷ []) (suc i)) z
+      ∙ ap (λ (m : List ℕ). literalsGo n m (length (escaped x ++ 34 ∷ [])) (out ++ 83 ∷ []) (suc i)) (sym (append-assoc (escaped x) (34 ∷ []) l))
       ∙ skip n (escaped x ++ 34 ∷ []) l (out ++ 83 ∷ []) (suc i) in
-      lit-on e (record { line = n; place = i; quote = 34; rest = escaped x ++ 34 ∷ l }) h (text-escaped x l) (lit-fine x l i) (subst (λ (ss : List Spot). Lits es (ss ++ more)) (sym a) w)
+      lit-on e (record { line = n; place = i; quote = 34; rest = escaped x ++ 34 ∷ l }) h (text-escaped x l) (lit-fine x l i) (subst (λ (ss : List Literal). Lits es (ss ++ more)) (sym a) w)
 
 -- ---- the lines
 
@@ -144,28 +144,28 @@ abbrev pub moreOf : ℕ → List Entry → List (List ℕ)
 moreOf m [] = []
 moreOf m (e ∷ es) = cond (eqb (e .line) m) (moreOf m es) (replicate (e .line - m - 1) [] ++ litOn (e .text) (lineOf (e .line) es) ∷ moreOf (e .line) es)
 
-blank-spots : (d n i : ℕ) (ls : List (List ℕ)) → spotsOf n i (replicate d [] ++ ls) ≡ spotsOf (n + d) (i + d) ls
-unfolding spotsOf spotsGo
-blank-spots zero n i ls = let y : n ≡ n + 0 = omega arith in let z : i ≡ i + 0 = omega arith in ap (λ (k : ℕ). spotsOf k i ls) y ∙ ap (λ (k : ℕ). spotsOf (n + 0) k ls) z
+blank-spots : (d n i : ℕ) (ls : List (List ℕ)) → literalsOf n i (replicate d [] ++ ls) ≡ literalsOf (n + d) (i + d) ls
+unfolding literalsOf literalsGo
+blank-spots zero n i ls = let y : n ≡ n + 0 = omega arith in let z : i ≡ i + 0 = omega arith in ap (λ (k : ℕ). literalsOf k i ls) y ∙ ap (λ (k : ℕ). literalsOf (n + 0) k ls) z
 blank-spots (suc d) n i ls =
     let x : suc (i + 0) ≡ suc i = omega arith in
     let y : suc n + d ≡ n + suc d = omega arith in
     let z : suc i + d ≡ i + suc d = omega arith in
-    ap (λ (k : ℕ). spotsOf (suc n) k (replicate d [] ++ ls)) x ∙ blank-spots d (suc n) (suc i) ls ∙ ap (λ (k : ℕ). spotsOf k (suc i + d) ls) y ∙ ap (λ (k : ℕ). spotsOf (n + suc d) k ls) z
+    ap (λ (k : ℕ). literalsOf (suc n) k (replicate d [] ++ ls)) x ∙ blank-spots d (suc n) (suc i) ls ∙ ap (λ (k : ℕ). literalsOf k (suc i + d) ls) y ∙ ap (λ (k : ℕ). literalsOf (n + suc d) k ls) z
 
-abbrev rest : ℕ → List ℕ → List (List ℕ) → List ℕ → ℕ → List Spot
-rest m l ls out i = spotsGo m l 0 out i ++ spotsOf (suc m) (suc (i + length l)) ls
+abbrev rest : ℕ → List ℕ → List (List ℕ) → List ℕ → ℕ → List Literal
+rest m l ls out i = literalsGo m l 0 out i ++ literalsOf (suc m) (suc (i + length l)) ls
 
 -- one literal, where its line is reached
 lit-rest : (n : ℕ) (e : Entry) (es : List Entry) → n ≡ e .line → (l : List ℕ) (ls : List (List ℕ)) → ((out : List ℕ) (i : ℕ) → Lits es (rest n l ls out i)) → (out : List ℕ) (i : ℕ) → Lits (e ∷ es) (rest n (litOn (e .text) l) ls out i)
 lit-rest n e es h l ls w out i =
     let x : List ℕ = escaped (e .text) in
     let z : suc (suc i + length (x ++ 34 ∷ []) + length l) ≡ suc (i + suc (length (x ++ 34 ∷ l))) = let a = length-append x (34 ∷ []) in let b = length-append x (34 ∷ l) in omega (arith, a, b) in
-    lit-here n e h l (spotsOf (suc n) (suc (i + length (litOn (e .text) l))) ls) out i
-    (subst (λ (k : ℕ). Lits es (spotsGo n l 0 (out ++ 83 ∷ []) (suc i + length (x ++ 34 ∷ [])) ++ spotsOf (suc n) k ls)) z (w (out ++ 83 ∷ []) (suc i + length (x ++ 34 ∷ []))))
+    lit-here n e h l (literalsOf (suc n) (suc (i + length (litOn (e .text) l))) ls) out i
+    (subst (λ (k : ℕ). Lits es (literalsGo n l 0 (out ++ 83 ∷ []) (suc i + length (x ++ 34 ∷ [])) ++ literalsOf (suc n) k ls)) z (w (out ++ 83 ∷ []) (suc i + length (x ++ 34 ∷ []))))
 
 pub lits-go : {b : ℕ} (es : List Entry) (m : ℕ) → Climbs b m es → (out : List ℕ) (i : ℕ) → Lits es (rest m (lineOf m es) (moreOf m es) out i)
-unfolding spotsGo spotsOf
+unfolding literalsGo literalsOf
 lits-go [] m c out i = no-lit
 lits-go (e ∷ es) m (climb p q c) out i = go (eqb (e .line) m) refl (lits-go es (e .line) c)
   where
@@ -179,8 +179,8 @@ lits-go (e ∷ es) m (climb p q c) out i = go (eqb (e .line) m) refl (lits-go es
         let d : ℕ = e .line - m - 1 in
         let y : suc m + (e .line - m - 1) ≡ e .line = omega (arith, g, p) in
         let v = lit-rest (e .line) e es refl (lineOf (e .line) es) (moreOf (e .line) es) w [] (suc (i + 0) + d) in
-        subst (λ (ss : List Spot). Lits (e ∷ es) ss)
-        (sym (blank-spots d (suc m) (suc (i + 0)) (litOn (e .text) (lineOf (e .line) es) ∷ moreOf (e .line) es) ∙ ap (λ (k : ℕ). spotsOf k (suc (i + 0) + d) (litOn (e .text) (lineOf (e .line) es) ∷ moreOf (e .line) es)) y)) v
+        subst (λ (ss : List Literal). Lits (e ∷ es) ss)
+        (sym (blank-spots d (suc m) (suc (i + 0)) (litOn (e .text) (lineOf (e .line) es) ∷ moreOf (e .line) es) ∙ ap (λ (k : ℕ). literalsOf k (suc (i + 0) + d) (litOn (e .text) (lineOf (e .line) es) ∷ moreOf (e .line) es)) y)) v
 
 -- ---- the listing
 
@@ -276,33 +276,33 @@ or-less : (a c d : Bool) → a || c ≡ false → (c ≡ false → d ≡ false) 
 or-less true c d h g = h
 or-less false c d h g = g h
 
-lits-firsts : (above ids : List (List ℕ)) {es : List Entry} {ss : List Spot} → Lits es ss → Fresh ids es → ((x : List ℕ) → known ids x ≡ false → known above x ≡ false) → firsts above ss ≡ es
+lits-firsts : (above ids : List (List ℕ)) {es : List Entry} {ss : List Literal} → Lits es ss → Fresh ids es → ((x : List ℕ) → known ids x ≡ false → known above x ≡ false) → firsts above ss ≡ es
 unfolding firsts
 lits-firsts above ids no-lit f k = refl
 lits-firsts above ids (lit-on e s {es} {ss} p q r w) (fresh z n f) k =
-    ap (λ (a : Bool). cond a [] (record { line = s .line; text = spotText s } ∷ []) ++ firsts (above ++ spotText s ∷ []) ss) out
-    ∙ ap (λ (l : List Entry). record { line = s .line; text = spotText s } ∷ l) (lits-firsts (above ++ spotText s ∷ []) (e .text ∷ ids) w f on)
+    ap (λ (a : Bool). cond a [] (record { line = s .line; text = literalText s } ∷ []) ++ firsts (above ++ literalText s ∷ []) ss) out
+    ∙ ap (λ (l : List Entry). record { line = s .line; text = literalText s } ∷ l) (lits-firsts (above ++ literalText s ∷ []) (e .text ∷ ids) w f on)
     ∙ rw (p, q) refl
   where
-    out : leftOut above (spotText s) ≡ false
+    out : leftOut above (literalText s) ≡ false
     out = ap (λ (x : List ℕ). leftOut above x) q ∙ ap (λ (a : Bool). a || known above (e .text)) z ∙ k (e .text) n
 
-    on : (x : List ℕ) → known (e .text ∷ ids) x ≡ false → known (above ++ spotText s ∷ []) x ≡ false
+    on : (x : List ℕ) → known (e .text ∷ ids) x ≡ false → known (above ++ literalText s ∷ []) x ≡ false
     on x h = ap (λ (t : List ℕ). known (above ++ t ∷ []) x) q ∙ known-last above (e .text) x ∙ or-less (same (e .text) x) (known ids x) (known above x) h (k x)
 
-lits-fine : {es : List Entry} {ss : List Spot} → Lits es ss → firstFlaw ss ≡ flaw.None
+lits-fine : {es : List Entry} {ss : List Literal} → Lits es ss → firstFlaw ss ≡ flaw.None
 unfolding firstFlaw
 lits-fine no-lit = refl
 lits-fine (lit-on e s {es} {ss} p q r w) = ap (λ (f : Flaw). orElse f (firstFlaw ss)) r ∙ lits-fine w
 
-listing-lits : {b : ℕ} (es : List Entry) → Climbs b 1 es → Lits es (spots (listingOf es))
-unfolding spots spotsOf
-listing-lits es c = subst (λ (ls : List (List ℕ)). Lits es (spotsOf 1 0 ls)) (sym (listing-lines es)) (lits-go es 1 c [] 0)
+listing-lits : {b : ℕ} (es : List Entry) → Climbs b 1 es → Lits es (literals (listingOf es))
+unfolding literals literalsOf
+listing-lits es c = subst (λ (ls : List (List ℕ)). Lits es (literalsOf 1 0 ls)) (sym (listing-lines es)) (lits-go es 1 c [] 0)
 
 -- the entries are those it was made of, and nothing is wrong with its literals
 pub listing-entries : {b : ℕ} (es : List Entry) → Climbs b 1 es → Fresh [] es → entries (listingOf es) ≡ es
 unfolding entries
 listing-entries es c f = lits-firsts [] [] (listing-lits es c) f (λ x h. h)
 
-pub listing-fine : {b : ℕ} (es : List Entry) → Climbs b 1 es → firstFlaw (spots (listingOf es)) ≡ flaw.None
+pub listing-fine : {b : ℕ} (es : List Entry) → Climbs b 1 es → firstFlaw (literals (listingOf es)) ≡ flaw.None
 listing-fine es c = lits-fine (listing-lits es c)

@@ -13,30 +13,30 @@ use Rattle.po.specs.Form.{headLines, entryLines}
 use Rattle.po.specs.Answers.{poText, poAnswer, readAnswer}
 
 -- an entry and its translation
-pub record Row : Type 0 where
+pub record Message : Type 0 where
   pub entry : Entry
   pub str : List ℕ
 
-abbrev pub entriesOf : List Row → List Entry
+abbrev pub entriesOf : List Message → List Entry
 entriesOf [] = []
 entriesOf (r ∷ rs) = r .entry ∷ entriesOf rs
 
 -- every translation is UTF-8
-pub data Translated : List Row → Type 0 where
+pub data Translated : List Message → Type 0 where
   no-string : Translated []
-  string-on : {r : Row} {rs : List Row} → utf8Of (r .str) ≡ Valid → Translated rs → Translated (r ∷ rs)
+  string-on : {r : Message} {rs : List Message} → utf8Of (r .str) ≡ Valid → Translated rs → Translated (r ∷ rs)
 
 -- the lines of entries, with their translations
-abbrev pub rowLines : List ℕ → List Row → List (List ℕ)
-rowLines name [] = []
-rowLines name (r ∷ rs) = entryLines name (r .entry) (r .str) ++ rowLines name rs
+abbrev pub messageLines : List ℕ → List Message → List (List ℕ)
+messageLines name [] = []
+messageLines name (r ∷ rs) = entryLines name (r .entry) (r .str) ++ messageLines name rs
 
--- the literals and the translations of rows, the last first, in front of others
-abbrev pub idsOn : List Row → List (List ℕ) → List (List ℕ)
+-- the literals and the translations of messages, the last first, in front of others
+abbrev pub idsOn : List Message → List (List ℕ) → List (List ℕ)
 idsOn [] ids = ids
 idsOn (r ∷ rs) ids = idsOn rs (r .entry .text ∷ ids)
 
-abbrev pub strsOn : List Row → List (List ℕ) → List (List ℕ)
+abbrev pub strsOn : List Message → List (List ℕ) → List (List ℕ)
 strsOn [] strs = strs
 strsOn (r ∷ rs) strs = strsOn rs (r .str ∷ strs)
 
@@ -47,10 +47,10 @@ pub record Written (file : List ℕ) : Type 0 where
   pub listing : List ℕ
   pub done : poAnswer name listing (length (poText name listing)) ≡ po.Done (length (poText name listing))
   pub few : length (linesOf listing) < 2 ^ 64
-  pub rows : List Row
+  pub rows : List Message
   pub same-entries : entriesOf rows ≡ entries listing
   pub translated : Translated rows
-  pub bytes : file ≡ unlines (headLines ++ rowLines name rows)
+  pub bytes : file ≡ unlines (headLines ++ messageLines name rows)
 
 -- `read_po` refuses no line of a file
 abbrev pub Taken : List ℕ → ℕ → Type 0

@@ -7,15 +7,15 @@ use lib.ListN.{length}
 use Rattle.lines.proofs.LfLaws.{find-le}
 use Rattle.lines.proofs.OutLaws.{writing-length}
 use Rattle.reading.specs.Reading.{readingOf}
-use Rattle.once.specs.Inner.Tables.{Blank}
-use Rattle.once.proofs.Blanks.{blank-as, blank-less}
+use Rattle.once.specs.Inner.Tables.{Zeroed}
+use Rattle.once.proofs.Zeros.{zeroed-as, zeroed-less}
 use Rattle.once.proofs.Decides.{value-room}
 use Rattle.engines.proofs.EngineLaws.{FlagsInv, flags-start, row-there, flag-place, flags-on, flags-end}
 use Rattle.engines.proofs.flag_lines.Statement.{statement}
 use Rattle.engines.proofs.flag_lines.Tie as tie
 
 abbrev Inv-loop : tie.InvT-loop
-Inv-loop mode text paths loops scratch₀ flags₀ i₀ k₀ scratch flags i k = (scratch ≡ scratch₀) × (Blank (length text) scratch × FlagsInv (readingOf (mode .0)) text paths loops flags₀ flags i k)
+Inv-loop mode text paths loops scratch₀ flags₀ i₀ k₀ scratch flags i k = (scratch ≡ scratch₀) × (Zeroed (length text) scratch × FlagsInv (readingOf (mode .0)) text paths loops flags₀ flags i k)
 
 abbrev μ-loop : tie.MeasureT-loop
 μ-loop mode text paths loops scratch₀ flags₀ i₀ k₀ scratch flags i k = length text - i
@@ -72,7 +72,7 @@ part-line-goes-end-3 : tie.Need-part-line-goes-end-3 Inv-loop μ-loop
 part-line-goes-end-3 c = search needs
 
 line-goes-requires : tie.Need-line-goes-requires Inv-loop μ-loop
-line-goes-requires c κs = blank-less (value-room (c .before .before .before .before .before .before .before .before .before .loop .i) (c .before .before .before .before .before .before .before .find-byte .result) (c .before .before .before .before .before .before .before .before .before .before .before .before .before .before .before .args .text .now)) (c .before .before .before .before .before .before .before .before .before .loop .inv .1 .0)
+line-goes-requires c κs = zeroed-less (value-room (c .before .before .before .before .before .before .before .before .before .loop .i) (c .before .before .before .before .before .before .before .find-byte .result) (c .before .before .before .before .before .before .before .before .before .before .before .before .before .before .before .args .text .now)) (c .before .before .before .before .before .before .before .before .before .loop .inv .1 .0)
 
 flag-requires : tie.Need-flag-requires Inv-loop μ-loop
 flag-requires c κs = search needs
@@ -84,7 +84,7 @@ loop-less : tie.Need-loop-less Inv-loop μ-loop
 loop-less c = omega (arith, c .before .before .before .before .before .before .before .before .before .before .after .ensures, c .before .before .before .before .before .before .before .before .before .before .before .find-byte .ensures, c .before .before .before .before .before .before .before .before .before .before .before .before .loop-test .taken)
 
 loop-again : tie.Need-loop-again Inv-loop μ-loop
-loop-again c = let l = c .before .before .before .before .before .before .before .before .before .before .before .before .before .loop in let m = c .before .before .before .line-goes in let f = c .before .before .before .before .before .before .before .before .before .before .before .find-byte in let p = c .before .before .before .before .before .before .before .before .before .before .before .before .before .before .before .before .before .before .before .pre .1 .1 .0 in let r = row-there (l .inv .1 .1) (c .before .before .before .before .before .before .before .before .before .before .before .before .loop-test .taken) (f .result) (f .ensures) in (m .ensures .1 ∙ l .inv .0, (blank-as (m .ensures .1) (l .inv .1 .0), flags-on (l .inv .1 .1) (c .before .before .before .before .before .before .before .before .before .before .before .before .loop-test .taken) (f .result) (f .ensures) (c .before .before .before .before .before .before .before .before .before .before .after .result) (m .result) (c .flag .result) (c .before .before .before .before .before .before .before .before .before .before .after .ensures) (omega arith) (m .ensures .0) (c .flag .ensures)))
+loop-again c = let l = c .before .before .before .before .before .before .before .before .before .before .before .before .before .loop in let m = c .before .before .before .line-goes in let f = c .before .before .before .before .before .before .before .before .before .before .before .find-byte in let p = c .before .before .before .before .before .before .before .before .before .before .before .before .before .before .before .before .before .before .before .pre .1 .1 .0 in let r = row-there (l .inv .1 .1) (c .before .before .before .before .before .before .before .before .before .before .before .before .loop-test .taken) (f .result) (f .ensures) in (m .ensures .1 ∙ l .inv .0, (zeroed-as (m .ensures .1) (l .inv .1 .0), flags-on (l .inv .1 .1) (c .before .before .before .before .before .before .before .before .before .before .before .before .loop-test .taken) (f .result) (f .ensures) (c .before .before .before .before .before .before .before .before .before .before .after .result) (m .result) (c .flag .result) (c .before .before .before .before .before .before .before .before .before .before .after .ensures) (omega arith) (m .ensures .0) (c .flag .ensures)))
 
 same-length : tie.Need-same-length Inv-loop μ-loop
 same-length c = ap length (c .before .loop .inv .0)

@@ -9,7 +9,7 @@ use Rattle.parse.specs.Parse.{textOf}
 use Rattle.reading.specs.Reading.{readingOf}
 use Rattle.lines.specs.Lf.{linesOf}
 use Rattle.once.specs.Inner.Tables.{dropsBy, storeDrops}
-use Rattle.once.proofs.Blanks.{blank-less}
+use Rattle.once.proofs.Zeros.{zeroed-less}
 use Rattle.once.proofs.Decides.{drops-at, value-room}
 use Rattle.engines.proofs.line_goes.Statement.{statement}
 use Rattle.engines.proofs.line_goes.Tie as tie
@@ -27,7 +27,7 @@ value-of-requires : tie.Need-value-of-requires
 value-of-requires c κs = search needs
 
 store-goes-requires : tie.Need-store-goes-requires
-store-goes-requires c κs = let s = c .before .before .before .s .given .0 .0 in blank-less (let h = value-room (s .from) (s .to) (c .before .before .before .before .before .before .before .before .before .before .args .line .now) in let q = ap length (c .before .value-of .ensures) in omega arith) (c .before .before .before .before .before .before .before .before .before .before .pre)
+store-goes-requires c κs = let s = c .before .before .before .s .given .0 .0 in zeroed-less (let h = value-room (s .from) (s .to) (c .before .before .before .before .before .before .before .before .before .before .args .line .now) in let q = ap length (c .before .value-of .ensures) in omega arith) (c .before .before .before .before .before .before .before .before .before .before .pre)
 
 enum-told-2 : tie.Need-enum-told-2
 enum-told-2 c = search needs

@@ -9,7 +9,7 @@ use Rattle.place.proofs.Fills.{flags-length}
 use Rattle.place.proofs.Paths.{length-tops}
 use Rattle.place.proofs.Nests.{length-loops}
 use Rattle.reading.specs.Reading.{readingOf}
-use Rattle.once.proofs.Blanks.{blank-wiped}
+use Rattle.once.proofs.Zeros.{zeroed-wiped}
 use Rattle.once.proofs.Passes.{filled-part, filled-to, filled-le, wrote-same}
 use Rattle.engines.proofs.EngineLaws.{plain-filled}
 use Rattle.engines.proofs.plain_drops.Statement.{statement}
@@ -46,7 +46,7 @@ part-flag-lines-end-2 : tie.Need-part-flag-lines-end-2
 part-flag-lines-end-2 c = omega (arith, filled-le (c .before .before .before .before .before .inside-loop .ensures))
 
 flag-lines-requires : tie.Need-flag-lines-requires
-flag-lines-requires c κs = let p = c .before .before .before .before .before .before .before .before .before .before .before .before .before .before .before .before .before .before .before .before .before .before .before .before .before .before .before .before .before .pre in let ls = linesOf (c .before .before .before .before .before .before .before .before .before .before .before .before .before .before .before .before .before .before .before .before .before .before .before .before .before .before .before .before .before .args .text .now) in let g = ap length (filled-part (c .before .before .before .before .before .before .before .before .before .before .before .before .before .before .before .block-paths .ensures .0 .0)) in let h = ap length (filled-part (c .before .before .before .before .before .before .before .before .inside-loop .ensures)) in (blank-wiped (c .before .before .before .before .before .before .before .before .before .before .before .before .before .before .before .before .before .before .before .before .before .wipe .ensures), (p .1 .0, (omega (arith, g, length-tops ls), omega (arith, h, flags-length (insideLoop ls), length-loops ls))))
+flag-lines-requires c κs = let p = c .before .before .before .before .before .before .before .before .before .before .before .before .before .before .before .before .before .before .before .before .before .before .before .before .before .before .before .before .before .pre in let ls = linesOf (c .before .before .before .before .before .before .before .before .before .before .before .before .before .before .before .before .before .before .before .before .before .before .before .before .before .before .before .before .before .args .text .now) in let g = ap length (filled-part (c .before .before .before .before .before .before .before .before .before .before .before .before .before .before .before .block-paths .ensures .0 .0)) in let h = ap length (filled-part (c .before .before .before .before .before .before .before .before .inside-loop .ensures)) in (zeroed-wiped (c .before .before .before .before .before .before .before .before .before .before .before .before .before .before .before .before .before .before .before .before .before .wipe .ensures), (p .1 .0, (omega (arith, g, length-tops ls), omega (arith, h, flags-length (insideLoop ls), length-loops ls))))
 
 same-length : tie.Need-same-length
 same-length c = c .before .before .before .before .flag-lines .kept .1 .1 .1 .1 .0 ∙ c .before .before .before .before .before .before .before .before .before .before .before .before .before .before .before .before .before .before .before .before .before .before .before .before .before .before .wipe .kept .0

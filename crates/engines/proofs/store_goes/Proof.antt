@@ -4,7 +4,7 @@ use mathlib.Core.Path.{refl, sym, _∙_}
 use borrow.Author.Tests.{not-true, not-false}
 use Rattle.reading.specs.Reading.{readingOf}
 use Rattle.lines.specs.Lf.{linesOf}
-use Rattle.once.proofs.Blanks.{blank-kept}
+use Rattle.once.proofs.Zeros.{zeroed-kept}
 use Rattle.once.proofs.Decides.{drops-scratch, drops-loop, drops-read, drops-impure, drops-dead}
 use Rattle.engines.proofs.store_goes.Statement.{statement}
 use Rattle.engines.proofs.store_goes.Tie as tie
@@ -31,7 +31,7 @@ same-length : tie.Need-same-length
 same-length c = search needs
 
 returns-4 : tie.Need-returns-4
-returns-4 c = let a = c .before .before .before .before .before .before .before .before .before .before .before .before .before .before .args in (sym (drops-impure (readingOf (a .mode .0)) (a .reg .0) (a .x .now) (a .p) (a .in-loop) (linesOf (a .below .now)) (a .paths .now) (sym (c .before .before .before .before .before .before .before .before .before .is-scratch .ensures) ∙ c .before .before .before .before .before .before .before .before .if1 .left) (c .before .before .before .before .before .before .before .if2 .left) _ (c .before .before .before .before .before .before .count-reg .ensures) (c .before .before .before .before .before .if3 .left) (sym (c .before .before .before .pure-value .ensures .0) ∙ not-true _ (c .if4 .taken))), blank-kept (c .before .before .before .before .before .before .before .before .before .before .before .before .before .before .pre) (c .before .before .before .pure-value .ensures .1))
+returns-4 c = let a = c .before .before .before .before .before .before .before .before .before .before .before .before .before .before .args in (sym (drops-impure (readingOf (a .mode .0)) (a .reg .0) (a .x .now) (a .p) (a .in-loop) (linesOf (a .below .now)) (a .paths .now) (sym (c .before .before .before .before .before .before .before .before .before .is-scratch .ensures) ∙ c .before .before .before .before .before .before .before .before .if1 .left) (c .before .before .before .before .before .before .before .if2 .left) _ (c .before .before .before .before .before .before .count-reg .ensures) (c .before .before .before .before .before .if3 .left) (sym (c .before .before .before .pure-value .ensures .0) ∙ not-true _ (c .if4 .taken))), zeroed-kept (c .before .before .before .before .before .before .before .before .before .before .before .before .before .before .pre) (c .before .before .before .pure-value .ensures .1))
 
 dead-below-requires : tie.Need-dead-below-requires
 dead-below-requires c κs = search needs
@@ -40,7 +40,7 @@ same-length-2 : tie.Need-same-length-2
 same-length-2 c = search needs
 
 returns-5 : tie.Need-returns-5
-returns-5 c = let a = c .before .before .before .before .before .before .before .before .before .before .before .before .before .before .before .args in (c .dead-below .ensures ∙ drops-dead (readingOf (a .mode .0)) (a .reg .0) (a .x .now) (a .p) (a .in-loop) (linesOf (a .below .now)) (a .paths .now) (sym (c .before .before .before .before .before .before .before .before .before .before .is-scratch .ensures) ∙ c .before .before .before .before .before .before .before .before .before .if1 .left) (c .before .before .before .before .before .before .before .before .if2 .left) _ (c .before .before .before .before .before .before .before .count-reg .ensures) (c .before .before .before .before .before .before .if3 .left) (sym (c .before .before .before .before .pure-value .ensures .0) ∙ not-false _ (c .before .if4 .left)), blank-kept (c .before .before .before .before .before .before .before .before .before .before .before .before .before .before .before .pre) (c .before .before .before .before .pure-value .ensures .1))
+returns-5 c = let a = c .before .before .before .before .before .before .before .before .before .before .before .before .before .before .before .args in (c .dead-below .ensures ∙ drops-dead (readingOf (a .mode .0)) (a .reg .0) (a .x .now) (a .p) (a .in-loop) (linesOf (a .below .now)) (a .paths .now) (sym (c .before .before .before .before .before .before .before .before .before .before .is-scratch .ensures) ∙ c .before .before .before .before .before .before .before .before .before .if1 .left) (c .before .before .before .before .before .before .before .before .if2 .left) _ (c .before .before .before .before .before .before .before .count-reg .ensures) (c .before .before .before .before .before .before .if3 .left) (sym (c .before .before .before .before .pure-value .ensures .0) ∙ not-false _ (c .before .if4 .left)), zeroed-kept (c .before .before .before .before .before .before .before .before .before .before .before .before .before .before .before .pre) (c .before .before .before .before .pure-value .ensures .1))
 
 pub store-goes-spec : {M : Type 1} → statement M
 store-goes-spec =

@@ -9,7 +9,7 @@ use Rattle.place.proofs.Paths.{length-tops}
 use Rattle.decls.proofs.SeenLaws.{wiped-most}
 use Rattle.reading.specs.Reading.{readingOf}
 use Rattle.once.proofs.BackLaws.{ends-of}
-use Rattle.once.proofs.Blanks.{blank-wiped}
+use Rattle.once.proofs.Zeros.{zeroed-wiped}
 use Rattle.once.proofs.Passes.{filled-part, filled-to, filled-le, wrote-same, marks-filled}
 use Rattle.once.proofs.decide.Statement.{statement}
 use Rattle.once.proofs.decide.Tie as tie
@@ -50,7 +50,7 @@ fill-marks-requires : tie.Need-fill-marks-requires
 fill-marks-requires c κs =
     let a = c .before .before .before .before .before .before .before .before .before .before .before .before .before .before .before .before .before .before .before .before .before .before .before .before .before .before .before .before .before .before .before .before .before .before .before .before .before .before .before .before .before .before .before .before .before .args in
     let b = c .before .before .before .before .before .before .before .before .before .before .before .before .before .before .before .before .before .before .before .before .before .block-paths .ensures in
-    (blank-wiped (c .before .before .before .before .before .before .before .before .before .before .before .before .before .before .before .before .before .before .before .before .before .before .before .before .before .before .before .before .before .before .before .wipe .ensures), (c .before .before .before .before .before .before .before .before .before .before .before .before .before .before .before .before .before .before .before .before .before .before .before .before .before .before .before .before .before .before .before .before .before .before .before .before .before .before .before .before .before .before .before .before .before .pre .1 .0, (ap length (filled-part (b .0 .0)) ∙ length-tops (linesOf (a .text .now)), (c .before .before .before .before .before .before .before .before .before .before .before .before .before .before .before .before .before .before .before .before .before .before .before .before .before .before .before .before .before .before .before .before .before .before .before .before .before .before .before .before .before .before .before .before .before .pre .1 .1 .1 .1 .1 .1, ends-of (a .text .now) _ _ (wiped-most (length (a .ends .now)) _ (c .before .before .before .before .before .before .before .before .before .before .before .before .before .before .before .before .before .before .before .before .before .before .before .before .before .before .before .wipe2 .ensures)) (b .1 .1)))))
+    (zeroed-wiped (c .before .before .before .before .before .before .before .before .before .before .before .before .before .before .before .before .before .before .before .before .before .before .before .before .before .before .before .before .before .before .before .wipe .ensures), (c .before .before .before .before .before .before .before .before .before .before .before .before .before .before .before .before .before .before .before .before .before .before .before .before .before .before .before .before .before .before .before .before .before .before .before .before .before .before .before .before .before .before .before .before .before .pre .1 .0, (ap length (filled-part (b .0 .0)) ∙ length-tops (linesOf (a .text .now)), (c .before .before .before .before .before .before .before .before .before .before .before .before .before .before .before .before .before .before .before .before .before .before .before .before .before .before .before .before .before .before .before .before .before .before .before .before .before .before .before .before .before .before .before .before .before .pre .1 .1 .1 .1 .1 .1, ends-of (a .text .now) _ _ (wiped-most (length (a .ends .now)) _ (c .before .before .before .before .before .before .before .before .before .before .before .before .before .before .before .before .before .before .before .before .before .before .before .before .before .before .before .wipe2 .ensures)) (b .1 .1)))))
 
 same-length : tie.Need-same-length
 same-length c = c .before .before .before .before .before .before .before .before .before .before .before .before .fill-marks .kept .1 .1 .1 .1 .1 .0 ∙ c .before .before .before .before .before .before .before .before .before .before .before .before .before .before .before .before .before .before .before .before .before .before .before .before .before .before .before .before .before .before .before .before .before .before .before .before .before .before .before .before .before .before .before .before .wipe .kept .0

@@ -3,7 +3,7 @@ use mathlib.Core.Path.{refl, _∙_}
 use native.Mathlib.Omega.{arith}
 use Rattle.lines.proofs.LfLaws.{find-le}
 use Rattle.reading.specs.Reading.{readingOf}
-use Rattle.once.proofs.Blanks.{blank-less}
+use Rattle.once.proofs.Zeros.{zeroed-less}
 use Rattle.once.proofs.CalmLaws.{calm-rest}
 use Rattle.once.proofs.Decides.{value-room}
 use Rattle.once.proofs.NotedFills.{drop-rest}
@@ -67,7 +67,7 @@ line-drops-requires : tie.Need-line-drops-requires
 line-drops-requires c κs =
     let a = c .before .before .before .before .before .before .before .before .before .before .before .args in
     let j = c .before .before .before .before .before .after in
-    (c .before .before .before .before .before .before .before .before .before .before .before .pre .0 .1, (blank-less (value-room (a .i) (a .e) (a .text .now)) (c .before .before .before .before .before .before .before .before .before .before .before .pre .1 .0), (drop-rest (a .text .now) (a .paths .now) (a .i) (a .e) (j .result) (a .k) _ (a .note) (omega (arith, c .before .before .before .before .before .before .before .if1 .left)) (c .before .before .before .before .before .before .before .before .before .before .before .pre .0 .0) (j .ensures) refl (c .before .before .before .before .before .before .before .before .before .before .before .pre .1 .1 .0), calm-rest (a .text .now) (a .calm) (j .result) (c .before .before .before .before .before .before .before .before .before .before .before .pre .1 .1 .1))))
+    (c .before .before .before .before .before .before .before .before .before .before .before .pre .0 .1, (zeroed-less (value-room (a .i) (a .e) (a .text .now)) (c .before .before .before .before .before .before .before .before .before .before .before .pre .1 .0), (drop-rest (a .text .now) (a .paths .now) (a .i) (a .e) (j .result) (a .k) _ (a .note) (omega (arith, c .before .before .before .before .before .before .before .if1 .left)) (c .before .before .before .before .before .before .before .before .before .before .before .pre .0 .0) (j .ensures) refl (c .before .before .before .before .before .before .before .before .before .before .before .pre .1 .1 .0), calm-rest (a .text .now) (a .calm) (j .result) (c .before .before .before .before .before .before .before .before .before .before .before .pre .1 .1 .1))))
 
 same-length : tie.Need-same-length
 same-length c = search needs

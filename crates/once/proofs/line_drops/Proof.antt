@@ -8,7 +8,7 @@ use lib.ListN.{length}
 use Rattle.reading.specs.Reading.{readingOf}
 use Rattle.lines.specs.Lf.{linesOf}
 use Rattle.once.specs.Inner.Tables.{dropsBy, storeDrops}
-use Rattle.once.proofs.Blanks.{blank-less}
+use Rattle.once.proofs.Zeros.{zeroed-less}
 use Rattle.once.proofs.Decides.{drops-at, value-room}
 use Rattle.once.proofs.line_drops.Statement.{statement}
 use Rattle.once.proofs.line_drops.Tie as tie
@@ -30,7 +30,7 @@ store-drops-requires : tie.Need-store-drops-requires
 store-drops-requires c κs =
     let a = c .before .before .before .before .before .before .before .before .before .args in
     let s = c .before .before .before .q .given .0 .0 in
-    (blank-less (let h = value-room (s .from) (s .to) (a .line .now) in let q = ap length (c .before .value-of .ensures) in omega arith) (c .before .before .before .before .before .before .before .before .before .pre .1 .0), (c .before .before .before .before .before .before .before .before .before .pre .1 .1 .0 s (sym (c .before .before .before .before .before .before .before .before .before .pre .0) ∙ c .before .before .before .q .given .1), c .before .before .before .before .before .before .before .before .before .pre .1 .1 .1))
+    (zeroed-less (let h = value-room (s .from) (s .to) (a .line .now) in let q = ap length (c .before .value-of .ensures) in omega arith) (c .before .before .before .before .before .before .before .before .before .pre .1 .0), (c .before .before .before .before .before .before .before .before .before .pre .1 .1 .0 s (sym (c .before .before .before .before .before .before .before .before .before .pre .0) ∙ c .before .before .before .q .given .1), c .before .before .before .before .before .before .before .before .before .pre .1 .1 .1))
 
 enum-told-2 : tie.Need-enum-told-2
 enum-told-2 c = search needs

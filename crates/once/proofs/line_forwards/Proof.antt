@@ -9,7 +9,7 @@ use Rattle.reading.specs.Reading.{readingOf}
 use Rattle.lines.specs.Lf.{linesOf}
 use Rattle.place.specs.Region.{region}
 use Rattle.once.specs.Inner.Tables.{forwardsBy, storeForwards}
-use Rattle.once.proofs.Blanks.{blank-less}
+use Rattle.once.proofs.Zeros.{zeroed-less}
 use Rattle.once.proofs.Decides.{forwards-at, value-room}
 use Rattle.once.proofs.line_forwards.Statement.{statement}
 use Rattle.once.proofs.line_forwards.Tie as tie
@@ -31,7 +31,7 @@ store-forwards-requires : tie.Need-store-forwards-requires
 store-forwards-requires c κs =
     let a = c .before .before .before .before .before .before .before .before .before .before .args in
     let s = c .before .before .before .p .given .0 .0 in
-    (blank-less (let h = value-room (s .from) (s .to) (a .line .now) in let q = ap length (c .before .value-of .ensures) in omega arith) (c .before .before .before .before .before .before .before .before .before .before .pre .1 .0), (c .before .before .before .before .before .before .before .before .before .before .pre .1 .1 .0 s (sym (c .before .before .before .before .before .before .before .before .before .before .pre .0) ∙ c .before .before .before .p .given .1), c .before .before .before .before .before .before .before .before .before .before .pre .1 .1 .1 s (sym (c .before .before .before .before .before .before .before .before .before .before .pre .0) ∙ c .before .before .before .p .given .1)))
+    (zeroed-less (let h = value-room (s .from) (s .to) (a .line .now) in let q = ap length (c .before .value-of .ensures) in omega arith) (c .before .before .before .before .before .before .before .before .before .before .pre .1 .0), (c .before .before .before .before .before .before .before .before .before .before .pre .1 .1 .0 s (sym (c .before .before .before .before .before .before .before .before .before .before .pre .0) ∙ c .before .before .before .p .given .1), c .before .before .before .before .before .before .before .before .before .before .pre .1 .1 .1 s (sym (c .before .before .before .before .before .before .before .before .before .before .pre .0) ∙ c .before .before .before .p .given .1)))
 
 enum-told-2 : tie.Need-enum-told-2
 enum-told-2 c = search needs

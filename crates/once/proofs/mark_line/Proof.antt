@@ -5,7 +5,7 @@ use native.Mathlib.Omega.{arith}
 use lib.ListN.{length}
 use Rattle.parse.specs.Parse.{parseOf}
 use Rattle.reading.specs.Reading.{readingOf}
-use Rattle.once.proofs.Blanks.{blank-less, blank-as}
+use Rattle.once.proofs.Zeros.{zeroed-less, zeroed-as}
 use Rattle.once.proofs.Decides.{value-room}
 use Rattle.once.proofs.Fills.{first-goes, first-stays}
 use Rattle.once.proofs.NotedFills.{rows-on, drop-at, send-at, one-line, first-told}
@@ -70,7 +70,7 @@ next-drops-requires c κs =
     let a = c .before .before .before .before .before .before .before .before .before .before .before .before .before .before .before .before .before .before .args in
     let p = c .before .before .before .before .before .before .before .before .before .before .before .before .before .before .before .before .before .before .pre in
     let n = c .before .after in
-    ((rows-on (a .text .now) (a .i) (a .k) (a .e) (n .result) (p .0 .rows) (p .0 .here) (p .0 .end) (n .ensures)), (blank-as (c .before .before .before .before .before .drops-at .ensures .1) (p .1 .0), (p .1 .1 .1 .0, (p .1 .1 .1 .1 .0, p .1 .1 .1 .1 .1))))
+    ((rows-on (a .text .now) (a .i) (a .k) (a .e) (n .result) (p .0 .rows) (p .0 .here) (p .0 .end) (n .ensures)), (zeroed-as (c .before .before .before .before .before .drops-at .ensures .1) (p .1 .0), (p .1 .1 .1 .0, (p .1 .1 .1 .1 .0, p .1 .1 .1 .1 .1))))
 
 add-end-at : tie.Need-add-end-at
 add-end-at c = let p = c .before .before .before .before .before .before .before .before .before .before .before .before .before .before .before .before .before .before .before .before .before .pre in omega (arith, c .before .before .before .before .before .before .before .before .before .before .before .before .before .before .before .before .before .before .before .before .before .fits, c .before .before .before .before .before .before .before .before .before .before .before .before .before .before .before .before .before .before .before .before .before .good, p .0 .above, p .0 .here)
@@ -93,7 +93,7 @@ mark-at-requires c κs =
     let b = c .before .before .before .before .before .before .before .before .before .before .before .before .before .before .before .before .before .byte-at in
     let l = c .before .before .before .before .before .before .before .before .before .before .before .before .before .before .before .cut in
     let r = c .before .cut2 in
-    (c .before .before .before .before .before .before .before .before .before .before .before .before .before .before .parse .ensures, (c .before .before .end-at .ensures, (blank-less (let h = value-room (a .i) (a .e) (a .text .now) in let q = ap length (l .ensures) in omega arith) (blank-as (c .before .before .before .before .before .next-drops .ensures .1 ∙ c .before .before .before .before .before .before .before .before .before .before .before .drops-at .ensures .1) (p .1 .0)), (send-at (a .text .now) (a .paths .now) (a .notes .now) (p .1 .1 .1 .1 .0) (a .i) (a .k) (b .result) (p .0 .rows) (b .ensures) (a .e) (n .result) (l .result .now) (p .0 .here) (p .0 .end) (n .ensures) (l .ensures), one-line (a .text .now) (a .notes .now) (a .i) (a .e) (a .k) (a .run) (l .result .now) (r .result .now) (b .result) (l .ensures) (r .ensures) (b .ensures) (p .1 .1 .0)))))
+    (c .before .before .before .before .before .before .before .before .before .before .before .before .before .before .parse .ensures, (c .before .before .end-at .ensures, (zeroed-less (let h = value-room (a .i) (a .e) (a .text .now) in let q = ap length (l .ensures) in omega arith) (zeroed-as (c .before .before .before .before .before .next-drops .ensures .1 ∙ c .before .before .before .before .before .before .before .before .before .before .before .drops-at .ensures .1) (p .1 .0)), (send-at (a .text .now) (a .paths .now) (a .notes .now) (p .1 .1 .1 .1 .0) (a .i) (a .k) (b .result) (p .0 .rows) (b .ensures) (a .e) (n .result) (l .result .now) (p .0 .here) (p .0 .end) (n .ensures) (l .ensures), one-line (a .text .now) (a .notes .now) (a .i) (a .e) (a .k) (a .run) (l .result .now) (r .result .now) (b .result) (l .ensures) (r .ensures) (b .ensures) (p .1 .1 .0)))))
 
 same-length-2 : tie.Need-same-length-2
 same-length-2 c = search needs

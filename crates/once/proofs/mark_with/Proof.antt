@@ -7,8 +7,8 @@ use Rattle.lines.specs.Lf.{linesOf}
 use Rattle.lines.proofs.LfLaws.{find-le}
 use Rattle.lines.proofs.OutLaws.{writing-length}
 use Rattle.reading.specs.Reading.{readingOf}
-use Rattle.once.specs.Inner.Tables.{Blank}
-use Rattle.once.proofs.Blanks.{blank-as}
+use Rattle.once.specs.Inner.Tables.{Zeroed}
+use Rattle.once.proofs.Zeros.{zeroed-as}
 use Rattle.once.proofs.AreaLaws.{AreaInv}
 use Rattle.once.proofs.NotedFills.{rows-start, rows-on, area-begin, area-after, one-at}
 use Rattle.once.proofs.Fills.{linesAt, MarksInv, fill-start, fill-place, fill-on, fill-end}
@@ -24,7 +24,7 @@ use Rattle.once.proofs.noted.end_at.Reads as end-at-reads
 abbrev Inv-loop : tie.InvT-loop
 Inv-loop mode text paths loops calm notes ends scratch₀ marks₀ run₀ i₀ k₀ scratch marks run i k =
     (scratch ≡ scratch₀)
-    × (Blank (length text) scratch × (MarksInv (readingOf (mode .0)) text paths loops marks₀ marks i k run × ((linesOf (drop i text) ≡ drop k (linesOf text)) × AreaInv (linesOf text) k (linesAt text run))))
+    × (Zeroed (length text) scratch × (MarksInv (readingOf (mode .0)) text paths loops marks₀ marks i k run × ((linesOf (drop i text) ≡ drop k (linesOf text)) × AreaInv (linesOf text) k (linesAt text run))))
 
 abbrev μ-loop : tie.MeasureT-loop
 μ-loop mode text paths loops calm notes ends scratch₀ marks₀ run₀ i₀ k₀ scratch marks run i k = length text - i
@@ -75,7 +75,7 @@ loop-again c =
     let e = c .before .before .before .before .before .before .end-at in
     let t = c .before .before .before .before .before .before .before .loop-test .taken in
     let l = c .before .before .before .before .before .before .before .before .loop in
-    (m .ensures .1 ∙ l .inv .0, (blank-as (m .ensures .1) (l .inv .1 .0), (fill-on (l .inv .1 .1 .0) t (e .result) (w .result) (e .ensures) (w .ensures) (n .result) (m .result) (n .ensures) (m .ensures .0), (rows-on (a .text .now) (l .i) (l .k) (e .result) (n .result) (l .inv .1 .1 .1 .0) t (e .ensures) (n .ensures), area-after (a .text .now) (l .i) (l .k) (e .result) (n .result) t (e .ensures) (n .ensures) (l .inv .1 .1 .1 .0) (l .run) (w .result) (w .ensures) (l .inv .1 .1 .1 .1)))))
+    (m .ensures .1 ∙ l .inv .0, (zeroed-as (m .ensures .1) (l .inv .1 .0), (fill-on (l .inv .1 .1 .0) t (e .result) (w .result) (e .ensures) (w .ensures) (n .result) (m .result) (n .ensures) (m .ensures .0), (rows-on (a .text .now) (l .i) (l .k) (e .result) (n .result) (l .inv .1 .1 .1 .0) t (e .ensures) (n .ensures), area-after (a .text .now) (l .i) (l .k) (e .result) (n .result) t (e .ensures) (n .ensures) (l .inv .1 .1 .1 .0) (l .run) (w .result) (w .ensures) (l .inv .1 .1 .1 .1)))))
 
 same-length : tie.Need-same-length Inv-loop μ-loop
 same-length c = ap length (c .before .loop .inv .0)

@@ -4,7 +4,7 @@ use native.Mathlib.Omega.{arith}
 use mathlib.Core.Bool.{Bool}
 use Rattle.expr.specs.Pure.{isPure, cutIn, purityIn}
 use Rattle.expr.proofs.QuoteLaws.{cut-length}
-use Rattle.once.proofs.Blanks.{wiped-over}
+use Rattle.once.proofs.Zeros.{wiped-over}
 use Rattle.once.proofs.pure_value.Statement.{statement}
 use Rattle.once.proofs.pure_value.Tie as tie
 use Rattle.once.proofs.pure_value.Reads as reads

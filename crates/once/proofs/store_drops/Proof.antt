@@ -3,7 +3,7 @@ use mathlib.Core.Path.{refl, sym, _∙_}
 use borrow.Author.Tests.{not-true, not-false}
 use Rattle.reading.specs.Reading.{readingOf}
 use Rattle.lines.specs.Lf.{linesOf}
-use Rattle.once.proofs.Blanks.{blank-kept}
+use Rattle.once.proofs.Zeros.{zeroed-kept}
 use Rattle.once.proofs.Decides.{drops-live, drops-kept, drops-scratch, drops-loop, drops-read, drops-impure, drops-dead}
 use Rattle.once.proofs.store_drops.Statement.{statement}
 use Rattle.once.proofs.store_drops.Tie as tie
@@ -45,13 +45,13 @@ same-length : tie.Need-same-length
 same-length c = search needs
 
 returns-6 : tie.Need-returns-6
-returns-6 c = let a = c .before .before .before .before .before .before .before .before .before .before .before .before .before .before .before .before .args in (sym (drops-impure (readingOf (a .mode .0)) (a .reg .0) (a .x .now) (a .p) (a .in-loop) (linesOf (a .below .now)) (a .paths .now) (sym (c .before .before .before .before .before .before .before .before .before .before .scratch-at .ensures) ∙ c .before .before .before .before .before .before .before .before .before .if2 .left) (c .before .before .before .before .before .before .before .before .if3 .left) _ (c .before .before .before .before .before .before .count-reg .ensures) (c .before .before .before .before .before .if5 .left) (sym (c .before .before .before .pure-value .ensures .0) ∙ not-true _ (c .if6 .taken))), blank-kept (c .before .before .before .before .before .before .before .before .before .before .before .before .before .before .before .before .pre .0) (c .before .before .before .pure-value .ensures .1))
+returns-6 c = let a = c .before .before .before .before .before .before .before .before .before .before .before .before .before .before .before .before .args in (sym (drops-impure (readingOf (a .mode .0)) (a .reg .0) (a .x .now) (a .p) (a .in-loop) (linesOf (a .below .now)) (a .paths .now) (sym (c .before .before .before .before .before .before .before .before .before .before .scratch-at .ensures) ∙ c .before .before .before .before .before .before .before .before .before .if2 .left) (c .before .before .before .before .before .before .before .before .if3 .left) _ (c .before .before .before .before .before .before .count-reg .ensures) (c .before .before .before .before .before .if5 .left) (sym (c .before .before .before .pure-value .ensures .0) ∙ not-true _ (c .if6 .taken))), zeroed-kept (c .before .before .before .before .before .before .before .before .before .before .before .before .before .before .before .before .pre .0) (c .before .before .before .pure-value .ensures .1))
 
 same-length-2 : tie.Need-same-length-2
 same-length-2 c = search needs
 
 returns-7 : tie.Need-returns-7
-returns-7 c = let a = c .before .before .before .before .before .before .before .before .before .before .before .before .before .before .before .before .before .args in (sym (c .before .before .before .before .before .before .before .before .before .before .before .before .before .before .before .before .before .pre .1 .0 .dead (c .if7 .taken) .1) ∙ drops-dead (readingOf (a .mode .0)) (a .reg .0) (a .x .now) (a .p) (a .in-loop) (linesOf (a .below .now)) (a .paths .now) (sym (c .before .before .before .before .before .before .before .before .before .before .before .scratch-at .ensures) ∙ c .before .before .before .before .before .before .before .before .before .before .if2 .left) (c .before .before .before .before .before .before .before .before .before .if3 .left) _ (c .before .before .before .before .before .before .before .count-reg .ensures) (c .before .before .before .before .before .before .if5 .left) (sym (c .before .before .before .before .pure-value .ensures .0) ∙ not-false _ (c .before .if6 .left)), blank-kept (c .before .before .before .before .before .before .before .before .before .before .before .before .before .before .before .before .before .pre .0) (c .before .before .before .before .pure-value .ensures .1))
+returns-7 c = let a = c .before .before .before .before .before .before .before .before .before .before .before .before .before .before .before .before .before .args in (sym (c .before .before .before .before .before .before .before .before .before .before .before .before .before .before .before .before .before .pre .1 .0 .dead (c .if7 .taken) .1) ∙ drops-dead (readingOf (a .mode .0)) (a .reg .0) (a .x .now) (a .p) (a .in-loop) (linesOf (a .below .now)) (a .paths .now) (sym (c .before .before .before .before .before .before .before .before .before .before .before .scratch-at .ensures) ∙ c .before .before .before .before .before .before .before .before .before .before .if2 .left) (c .before .before .before .before .before .before .before .before .before .if3 .left) _ (c .before .before .before .before .before .before .before .count-reg .ensures) (c .before .before .before .before .before .before .if5 .left) (sym (c .before .before .before .before .pure-value .ensures .0) ∙ not-false _ (c .before .if6 .left)), zeroed-kept (c .before .before .before .before .before .before .before .before .before .before .before .before .before .before .before .before .before .pre .0) (c .before .before .before .before .pure-value .ensures .1))
 
 dead-below-requires : tie.Need-dead-below-requires
 dead-below-requires c κs = search needs
@@ -60,7 +60,7 @@ same-length-3 : tie.Need-same-length-3
 same-length-3 c = search needs
 
 returns-8 : tie.Need-returns-8
-returns-8 c = let a = c .before .before .before .before .before .before .before .before .before .before .before .before .before .before .before .before .before .before .args in (c .dead-below .ensures ∙ drops-dead (readingOf (a .mode .0)) (a .reg .0) (a .x .now) (a .p) (a .in-loop) (linesOf (a .below .now)) (a .paths .now) (sym (c .before .before .before .before .before .before .before .before .before .before .before .before .scratch-at .ensures) ∙ c .before .before .before .before .before .before .before .before .before .before .before .if2 .left) (c .before .before .before .before .before .before .before .before .before .before .if3 .left) _ (c .before .before .before .before .before .before .before .before .count-reg .ensures) (c .before .before .before .before .before .before .before .if5 .left) (sym (c .before .before .before .before .before .pure-value .ensures .0) ∙ not-false _ (c .before .before .if6 .left)), blank-kept (c .before .before .before .before .before .before .before .before .before .before .before .before .before .before .before .before .before .before .pre .0) (c .before .before .before .before .before .pure-value .ensures .1))
+returns-8 c = let a = c .before .before .before .before .before .before .before .before .before .before .before .before .before .before .before .before .before .before .args in (c .dead-below .ensures ∙ drops-dead (readingOf (a .mode .0)) (a .reg .0) (a .x .now) (a .p) (a .in-loop) (linesOf (a .below .now)) (a .paths .now) (sym (c .before .before .before .before .before .before .before .before .before .before .before .before .scratch-at .ensures) ∙ c .before .before .before .before .before .before .before .before .before .before .before .if2 .left) (c .before .before .before .before .before .before .before .before .before .before .if3 .left) _ (c .before .before .before .before .before .before .before .before .count-reg .ensures) (c .before .before .before .before .before .before .before .if5 .left) (sym (c .before .before .before .before .before .pure-value .ensures .0) ∙ not-false _ (c .before .before .if6 .left)), zeroed-kept (c .before .before .before .before .before .before .before .before .before .before .before .before .before .before .before .before .before .before .pre .0) (c .before .before .before .before .before .pure-value .ensures .1))
 
 pub store-drops-spec : {M : Type 1} → statement M
 store-drops-spec =

@@ -3,7 +3,7 @@ use borrow.Author.Tests.{not-true, not-false}
 use Rattle.lines.specs.Lf.{linesOf}
 use Rattle.place.specs.Region.{region}
 use Rattle.reading.specs.Reading.{readingOf}
-use Rattle.once.proofs.Blanks.{blank-kept}
+use Rattle.once.proofs.Zeros.{zeroed-kept}
 use Rattle.once.proofs.Decides.{forwards-loop, forwards-gone, forwards-unsent, forwards-impure, forwards-hit, forwards-once}
 use borrow.Author.Needs.{needs}
 use Rattle.once.proofs.store_forwards.Statement.{statement}
@@ -34,7 +34,7 @@ same-length : tie.Need-same-length
 same-length c = search needs
 
 returns-4 : tie.Need-returns-4
-returns-4 c = let a = c .before .before .before .before .before .before .before .before .before .before .before .before .before .before .args in (sym (forwards-impure (readingOf (a .mode .0)) (a .reg .0) (a .x .now) (region (linesOf (a .run .now))) (a .in-loop) (a .gone) (a .next .now) (linesOf (a .below .now)) (c .before .before .before .before .before .before .before .before .if1 .left) (c .before .before .before .before .before .before .before .if2 .left) (sym (c .before .before .before .before .before .before .sent-to .ensures) ∙ not-false _ (c .before .before .before .before .before .if3 .left)) (sym (c .before .before .before .pure-value .ensures .0) ∙ not-true _ (c .if4 .taken))), blank-kept (c .before .before .before .before .before .before .before .before .before .before .before .before .before .before .pre .0) (c .before .before .before .pure-value .ensures .1))
+returns-4 c = let a = c .before .before .before .before .before .before .before .before .before .before .before .before .before .before .args in (sym (forwards-impure (readingOf (a .mode .0)) (a .reg .0) (a .x .now) (region (linesOf (a .run .now))) (a .in-loop) (a .gone) (a .next .now) (linesOf (a .below .now)) (c .before .before .before .before .before .before .before .before .if1 .left) (c .before .before .before .before .before .before .before .if2 .left) (sym (c .before .before .before .before .before .before .sent-to .ensures) ∙ not-false _ (c .before .before .before .before .before .if3 .left)) (sym (c .before .before .before .pure-value .ensures .0) ∙ not-true _ (c .if4 .taken))), zeroed-kept (c .before .before .before .before .before .before .before .before .before .before .before .before .before .before .pre .0) (c .before .before .before .pure-value .ensures .1))
 
 takes-requires : tie.Need-takes-requires
 takes-requires c κs = search needs
@@ -43,7 +43,7 @@ same-length-2 : tie.Need-same-length-2
 same-length-2 c = search needs
 
 returns-5 : tie.Need-returns-5
-returns-5 c = let a = c .before .before .before .before .before .before .before .before .before .before .before .before .before .before .before .before .args in (sym (forwards-hit (readingOf (a .mode .0)) (a .reg .0) (a .x .now) (region (linesOf (a .run .now))) (a .in-loop) (a .gone) (a .next .now) (linesOf (a .below .now)) (c .before .before .before .before .before .before .before .before .before .before .if1 .left) (c .before .before .before .before .before .before .before .before .before .if2 .left) (sym (c .before .before .before .before .before .before .before .before .sent-to .ensures) ∙ not-false _ (c .before .before .before .before .before .before .before .if3 .left)) (sym (c .before .before .before .before .before .pure-value .ensures .0) ∙ not-false _ (c .before .before .if4 .left)) (sym (c .before .takes .ensures) ∙ not-true _ (c .if5 .taken))), blank-kept (c .before .before .before .before .before .before .before .before .before .before .before .before .before .before .before .before .pre .0) (c .before .before .before .before .before .pure-value .ensures .1))
+returns-5 c = let a = c .before .before .before .before .before .before .before .before .before .before .before .before .before .before .before .before .args in (sym (forwards-hit (readingOf (a .mode .0)) (a .reg .0) (a .x .now) (region (linesOf (a .run .now))) (a .in-loop) (a .gone) (a .next .now) (linesOf (a .below .now)) (c .before .before .before .before .before .before .before .before .before .before .if1 .left) (c .before .before .before .before .before .before .before .before .before .if2 .left) (sym (c .before .before .before .before .before .before .before .before .sent-to .ensures) ∙ not-false _ (c .before .before .before .before .before .before .before .if3 .left)) (sym (c .before .before .before .before .before .pure-value .ensures .0) ∙ not-false _ (c .before .before .if4 .left)) (sym (c .before .takes .ensures) ∙ not-true _ (c .if5 .taken))), zeroed-kept (c .before .before .before .before .before .before .before .before .before .before .before .before .before .before .before .before .pre .0) (c .before .before .before .before .before .pure-value .ensures .1))
 
 once-in-requires : tie.Need-once-in-requires
 once-in-requires c κs = search needs
@@ -52,7 +52,7 @@ same-length-3 : tie.Need-same-length-3
 same-length-3 c = search needs
 
 returns-6 : tie.Need-returns-6
-returns-6 c = let a = c .before .before .before .before .before .before .before .before .before .before .before .before .before .before .before .before .before .args in (c .once-in .ensures ∙ forwards-once (readingOf (a .mode .0)) (a .reg .0) (a .x .now) (region (linesOf (a .run .now))) (a .in-loop) (a .gone) (a .next .now) (linesOf (a .below .now)) (c .before .before .before .before .before .before .before .before .before .before .before .if1 .left) (c .before .before .before .before .before .before .before .before .before .before .if2 .left) (sym (c .before .before .before .before .before .before .before .before .before .sent-to .ensures) ∙ not-false _ (c .before .before .before .before .before .before .before .before .if3 .left)) (sym (c .before .before .before .before .before .before .pure-value .ensures .0) ∙ not-false _ (c .before .before .before .if4 .left)) (sym (c .before .before .takes .ensures) ∙ not-false _ (c .before .if5 .left)), blank-kept (c .before .before .before .before .before .before .before .before .before .before .before .before .before .before .before .before .before .pre .0) (c .before .before .before .before .before .before .pure-value .ensures .1))
+returns-6 c = let a = c .before .before .before .before .before .before .before .before .before .before .before .before .before .before .before .before .before .args in (c .once-in .ensures ∙ forwards-once (readingOf (a .mode .0)) (a .reg .0) (a .x .now) (region (linesOf (a .run .now))) (a .in-loop) (a .gone) (a .next .now) (linesOf (a .below .now)) (c .before .before .before .before .before .before .before .before .before .before .before .if1 .left) (c .before .before .before .before .before .before .before .before .before .before .if2 .left) (sym (c .before .before .before .before .before .before .before .before .before .sent-to .ensures) ∙ not-false _ (c .before .before .before .before .before .before .before .before .if3 .left)) (sym (c .before .before .before .before .before .before .pure-value .ensures .0) ∙ not-false _ (c .before .before .before .if4 .left)) (sym (c .before .before .takes .ensures) ∙ not-false _ (c .before .if5 .left)), zeroed-kept (c .before .before .before .before .before .before .before .before .before .before .before .before .before .before .before .before .before .pre .0) (c .before .before .before .before .before .before .pure-value .ensures .1))
 
 pub store-forwards-spec : {M : Type 1} → statement M
 store-forwards-spec =

@@ -49,7 +49,7 @@ anyCall x (l ∷ ls) =
 -- ---- the same tests on one line, over the lines below it and their numbers
 
 -- scratch whose first n bytes are there, and zeros
-pub record Blank (n : ℕ) (d : List ℕ) : Type 0 where
+pub record Zeroed (n : ℕ) (d : List ℕ) : Type 0 where
   pub room : n ≤ length d
   pub zeros : take n d ≡ replicate n 0
 

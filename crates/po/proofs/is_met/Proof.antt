@@ -2,7 +2,7 @@
 use borrow.Author.Needs.{needs}
 use mathlib.Core.Path.{ap, _∙_}
 use lib.ListN.{take}
-use Rattle.po.specs.Found.{spots, known}
+use Rattle.po.specs.Found.{literals, known}
 use Rattle.po.specs.Inner.Walk.{texts}
 use Rattle.po.proofs.LoopLaws.{text-at}
 use Rattle.po.proofs.IndexLaws.{met-yes, met-no, met-on, known-last}
@@ -46,7 +46,7 @@ same-length-3 : tie.Need-same-length-3
 same-length-3 c = search needs
 
 returns-3 : tie.Need-returns-3
-returns-3 c = let a = c .before .before .before .before .before .before .before .before .before .before .before .args in let z = text-at (a .t .now) (a .c) (c .before .before .before .before .before .before .before .before .lit-rest .ensures) (c .before .before .before .before .before .before .before .byte-at .ensures) in let m = c .before .before .before .before .before .meet .ensures in (c .is-known .ensures ∙ ap (known (take (a .k) (texts (spots (a .t .now))))) z, met-on (c .before .before .before .before .before .before .before .before .before .before .before .pre .1) z (m .0) (a .c .at) (m .1) _ (known-last _ _))
+returns-3 c = let a = c .before .before .before .before .before .before .before .before .before .before .before .args in let z = text-at (a .t .now) (a .c) (c .before .before .before .before .before .before .before .before .lit-rest .ensures) (c .before .before .before .before .before .before .before .byte-at .ensures) in let m = c .before .before .before .before .before .meet .ensures in (c .is-known .ensures ∙ ap (known (take (a .k) (texts (literals (a .t .now))))) z, met-on (c .before .before .before .before .before .before .before .before .before .before .before .pre .1) z (m .0) (a .c .at) (m .1) _ (known-last _ _))
 
 pub is-met-spec : {M : Type 1} → statement M
 is-met-spec =

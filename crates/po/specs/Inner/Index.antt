@@ -9,11 +9,11 @@ use lib.Dec.{eqb, leb}
 use Rattle.lines.specs.Lf.{same}
 use Rattle.po.specs.declared.Seek.{Seek}
 use Rattle.po.specs.declared.Seek.the-variants as sought
-use Rattle.po.specs.Found.{textOf, known}
+use Rattle.po.specs.Found.{decoded, known}
 
 -- the text of the literal whose quote stands at the place p, where it is closed
 abbrev pub keyAt : List ℕ → ℕ → List ℕ
-keyAt t p = textOf (drop (p + 1) t) (getD t p 0)
+keyAt t p = decoded (drop (p + 1) t) (getD t p 0)
 
 -- a number of a text
 unfoldable pub hashOf : ℕ → List ℕ → ℕ
@@ -22,7 +22,7 @@ hashOf h (b ∷ bs) = hashOf ((h * 65599 + b) % 4294967291) bs
 
 -- from the place i of a table on: the text x is held, or a free place comes first; where the table ends, or an entry says nothing, it is unsure
 unfoldable pub seekGo : List ℕ → List ℕ → ℕ → List ℕ → Seek
-unfolding textOf
+unfolding decoded
 seekGo t [] i x = sought.Unsure
 seekGo t (v ∷ vs) i x =
     let on = seekGo t vs (i + 1) x in
@@ -38,7 +38,7 @@ seekOf t own x = seekGo t (drop (startOf own x) own) (startOf own x) x
 
 -- the entry of the text x, whose quote stands at the place p; a number above the length of the listing says nothing
 unfoldable pub hintOf : List ℕ → ℕ → List ℕ → ℕ
-unfolding textOf
+unfolding decoded
 hintOf t p x = cond (leb (length t) p) (length t + 1) (cond (same (keyAt t p) x) (p + 1) (length t + 1))
 
 -- the free place that was found, or n

@@ -11,24 +11,24 @@ use Rattle.lines.specs.Lf.{part, same, upTo, partsOf}
 use Rattle.po.specs.declared.Line.{Line}
 use Rattle.po.specs.declared.Strings.{Strings}
 use Rattle.po.specs.declared.Strings.the-variants as strings
-use Rattle.po.specs.Found.{textOf, empty}
+use Rattle.po.specs.Found.{decoded, empty}
 use Rattle.po.specs.Form.{idWord, strWord, refLine, escaped}
 use Rattle.po.specs.Name.{isFileName}
-use Rattle.po.specs.Reader.{State, start, Read, bad, good, quotedText, nameIn, lineIn, onward, packed, given}
+use Rattle.po.specs.Reader.{State, start, Read, bad, good, quotedText, nameIn, lineNumber, onward, packed, given}
 
 -- what follows a place is a text as it is written, and its closing quote
 unfoldable pub formed : List ℕ → Bool
-unfolding escaped textOf
-formed l = same l (escaped (textOf l 34) ++ ascii "\"")
+unfolding escaped decoded
+formed l = same l (escaped (decoded l 34) ++ ascii "\"")
 
 -- a line is a reference
 unfoldable pub isReference : List ℕ → Bool
-unfolding nameIn lineIn isFileName
-isReference l = same l (refLine (nameIn l) (lineIn l)) && isFileName (nameIn l)
+unfolding nameIn lineNumber isFileName
+isReference l = same l (refLine (nameIn l) (lineNumber l)) && isFileName (nameIn l)
 
 -- to the one file, to no line above the last
 abbrev pub follows : List ℕ → ℕ → List ℕ → Bool
-follows name least l = (empty name || same name (nameIn l)) && leb least (lineIn l)
+follows name least l = (empty name || same name (nameIn l)) && leb least (lineNumber l)
 
 -- what is awaited after a line
 abbrev pub nextOf : ℕ → ℕ
@@ -51,7 +51,7 @@ sameId w l x = eqb w 5 && same (quotedText idWord l) x
 
 -- one of the lines is
 unfoldable pub met : ℕ → List (List ℕ) → List ℕ → Bool
-unfolding textOf
+unfolding decoded
 met w [] x = false
 met w (l ∷ ls) x = sameId w l x || met (nextOf w) ls x
 

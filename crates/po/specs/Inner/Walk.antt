@@ -15,7 +15,7 @@ use Rattle.lexical.specs.Lex.{tokenOf, leaves}
 use Rattle.lexical.specs.Inner.Lex.{tailOf, grown}
 use Rattle.po.specs.declared.Cursor.{Cursor}
 use Rattle.po.specs.declared.Unit.{Unit}
-use Rattle.po.specs.Found.{isEscape, plainOf, Spot, spotOf, spotsOf, spotText, entries}
+use Rattle.po.specs.Found.{isEscape, plainOf, Literal, literalOf, literalsOf, literalText, entries}
 
 -- ---- a literal unit by unit
 
@@ -57,16 +57,16 @@ bodyText name t = unlines (bodyLines name (entries t))
 abbrev pub cursorAt : ℕ → ℕ → ℕ → Cursor
 cursorAt n i e = record { line = n; at = i; end = e; tail = tailOf [] }
 
-unfoldable pub litsGo : ℕ → List ℕ → ℕ → Tail → ℕ → List Spot
+unfoldable pub litsGo : ℕ → List ℕ → ℕ → Tail → ℕ → List Literal
 unfolding tokenOf grown
 litsGo n [] k t i = []
 litsGo n (x ∷ xs) (suc k) t i = litsGo n xs k t (suc i)
-litsGo n (x ∷ xs) zero t i = spotOf n i x xs ++ litsGo n xs (tokenOf (t .last) x xs .size - 1) (grown t (leaves (tokenOf (t .last) x xs .kind) x)) (suc i)
+litsGo n (x ∷ xs) zero t i = literalOf n i x xs ++ litsGo n xs (tokenOf (t .last) x xs .size - 1) (grown t (leaves (tokenOf (t .last) x xs .kind) x)) (suc i)
 
 -- from the cursor on: those of its line, and those of the lines after it
-unfoldable pub spotsFrom : List ℕ → Cursor → List Spot
+unfoldable pub spotsFrom : List ℕ → Cursor → List Literal
 unfolding litsGo
-spotsFrom t c = litsGo (c .line) (part (c .at) (c .end) t) 0 (c .tail) (c .at) ++ spotsOf (suc (c .line)) (suc (c .end)) (linesOf (drop (suc (c .end)) t))
+spotsFrom t c = litsGo (c .line) (part (c .at) (c .end) t) 0 (c .tail) (c .at) ++ literalsOf (suc (c .line)) (suc (c .end)) (linesOf (drop (suc (c .end)) t))
 
 -- a cursor of a text: in a line of it
 pub record Stands (t : List ℕ) (c : Cursor) : Type 0 where
@@ -83,13 +83,13 @@ pub record Ready (t : List ℕ) (c : Cursor) : Type 0 where
   pub stands : Stands t c
   pub lit : c .at < length t → atLit t c ≡ true
 
-abbrev pub spotAt : List ℕ → Cursor → Spot
+abbrev pub spotAt : List ℕ → Cursor → Literal
 spotAt t c = record { line = c .line; place = c .at; quote = getD t (c .at) 0; rest = part (c .at + 1) (c .end) t }
 
-abbrev pub hereAt : List ℕ → Cursor → List Spot
+abbrev pub hereAt : List ℕ → Cursor → List Literal
 hereAt t c = cond (atLit t c) (spotAt t c ∷ []) []
 
 -- the texts of literals
-unfoldable pub texts : List Spot → List (List ℕ)
+unfoldable pub texts : List Literal → List (List ℕ)
 texts [] = []
-texts (s ∷ ss) = spotText s ∷ texts ss
+texts (s ∷ ss) = literalText s ∷ texts ss

@@ -3,7 +3,7 @@ use Prim.Native.Nat.{_-_, _<_}
 use native.Mathlib.Omega.{arith}
 use mathlib.Core.Path.{_≡_, refl, sym, _∙_}
 use lib.ListN.{length, drop}
-use Rattle.po.specs.Found.{textOf}
+use Rattle.po.specs.Found.{decoded}
 use Rattle.po.specs.Inner.Index.{hashOf}
 use Rattle.po.proofs.UnitLaws.{size-in}
 use Rattle.po.proofs.IndexLaws.{hash-stop, hash-on, hash-past}
@@ -11,7 +11,7 @@ use Rattle.po.proofs.index.hash_text.Statement.{statement}
 use Rattle.po.proofs.index.hash_text.Tie as tie
 
 abbrev Inv-loop : tie.InvT-loop
-Inv-loop s q h₀ i₀ h i = (h < 4294967291) × (hashOf h (textOf (drop i s) q) ≡ hashOf 0 (textOf s q))
+Inv-loop s q h₀ i₀ h i = (h < 4294967291) × (hashOf h (decoded (drop i s) q) ≡ hashOf 0 (decoded s q))
 
 abbrev μ-loop : tie.MeasureT-loop
 μ-loop s q h₀ i₀ h i = length s - i

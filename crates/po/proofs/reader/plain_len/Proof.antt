@@ -2,7 +2,7 @@ use Prim.Native.Nat.{_-_, _+_}
 use native.Mathlib.Omega.{arith}
 use mathlib.Core.Path.{_≡_, ap}
 use lib.ListN.{length, drop}
-use Rattle.po.specs.Found.{textOf}
+use Rattle.po.specs.Found.{decoded}
 use Rattle.po.proofs.UnitLaws.{size-in, text-stop, text-on, text-past, text-le}
 use Rattle.po.proofs.reader.plain_len.Statement.{statement}
 use Rattle.po.proofs.reader.plain_len.Tie as tie
@@ -11,7 +11,7 @@ use Rattle.po.proofs.reader.plain_len.Lts as lts
 use Rattle.po.proofs.unit_at.Reads as unit-at-reads
 
 abbrev Inv-loop : tie.InvT-loop
-Inv-loop s q n₀ i₀ n i = n + length (textOf (drop i s) q) ≡ length (textOf s q)
+Inv-loop s q n₀ i₀ n i = n + length (decoded (drop i s) q) ≡ length (decoded s q)
 
 abbrev μ-loop : tie.MeasureT-loop
 μ-loop s q n₀ i₀ n i = length s - i

@@ -3,7 +3,7 @@ use native.Mathlib.Omega.{arith}
 use mathlib.Core.Path.{ap, sym}
 use lib.ListN.{length}
 use Rattle.lines.proofs.OutLaws.{wrote-then, wrote-as, wrote-length}
-use Rattle.po.specs.Found.{textOf}
+use Rattle.po.specs.Found.{decoded}
 use Rattle.po.specs.Reader.{lowBytes}
 use Rattle.po.proofs.StateLaws.{packed-length, low-length}
 use borrow.Author.Needs.{needs}
@@ -19,10 +19,10 @@ plain-len-requires : tie.Need-plain-len-requires
 plain-len-requires c κs = search needs
 
 put-size-requires : tie.Need-put-size-requires
-put-size-requires c κs = let a = c .before .before .before .before .args in omega (arith, c .before .before .before .before .pre, packed-length (textOf (a .s .now) (a .q)))
+put-size-requires c κs = let a = c .before .before .before .before .args in omega (arith, c .before .before .before .before .pre, packed-length (decoded (a .s .now) (a .q)))
 
 put-plain-requires : tie.Need-put-plain-requires
-put-plain-requires c κs = let a = c .before .before .before .before .before .before .before .before .args in let w = c .before .before .before .put-size in omega (arith, c .before .before .before .before .before .before .before .before .pre, packed-length (textOf (a .s .now) (a .q)), w .ensures .place, wrote-length (w .ensures), low-length 8 (c .before .before .before .before .plain-len .result))
+put-plain-requires c κs = let a = c .before .before .before .before .before .before .before .before .args in let w = c .before .before .before .put-size in omega (arith, c .before .before .before .before .before .before .before .before .pre, packed-length (decoded (a .s .now) (a .q)), w .ensures .place, wrote-length (w .ensures), low-length 8 (c .before .before .before .before .plain-len .result))
 
 same-length : tie.Need-same-length
 same-length c = search needs

@@ -3,7 +3,7 @@ use native.Mathlib.Omega.{arith}
 use mathlib.Core.Path.{_≡_, ap}
 use lib.ListN.{length, drop}
 use Rattle.lines.proofs.OutLaws.{Writing, writing-start, writing-as, writing-length, writing-room, writing-put, writing-end}
-use Rattle.po.specs.Found.{textOf}
+use Rattle.po.specs.Found.{decoded}
 use Rattle.po.proofs.UnitLaws.{size-in, text-stop, text-on, text-past}
 use Rattle.po.proofs.reader.put_plain.Statement.{statement}
 use Rattle.po.proofs.reader.put_plain.Tie as tie
@@ -13,7 +13,7 @@ use Rattle.lines.proofs.put_byte.Reads as put-byte-reads
 use Rattle.po.proofs.unit_at.Reads as unit-at-reads
 
 abbrev Inv-loop : tie.InvT-loop
-Inv-loop out₀ o s q p₀ i₀ out p i = Writing o (textOf s q) (textOf (drop i s) q) out₀ out p
+Inv-loop out₀ o s q p₀ i₀ out p i = Writing o (decoded s q) (decoded (drop i s) q) out₀ out p
 
 abbrev μ-loop : tie.MeasureT-loop
 μ-loop out₀ o s q p₀ i₀ out p i = length s - i

@@ -8,7 +8,7 @@ use lib.Seq.{take-take, drop-drop, drop-append-add}
 use Rattle.lines.specs.Inner.Out.{putAt, Wrote}
 use Rattle.lines.proofs.OutLaws.{put-length, wrote-length, wrote-part}
 use Rattle.slots.proofs.SlotLaws.{zeros-take, wiped-past}
-use Rattle.once.specs.Inner.Tables.{Blank}
+use Rattle.once.specs.Inner.Tables.{Zeroed}
 
 past : (t d : List ℕ) (n : ℕ) → length t ≤ n → drop n (t ++ drop (length t) d) ≡ drop n d
 past t d n h =
@@ -26,9 +26,9 @@ wiped-over {n} {d} {d₁} {d₂} t r h e w =
     wiped-past n d d₁ d₂ (ap (drop n) (e ∙ ap (λ (k : ℕ). t ++ drop k d) y) ∙ past t d n h) (ap length e ∙ put-length d 0 t (omega arith)) w
 
 -- zeros that are wiped stay as they are
-pub blank-kept : {n : ℕ} {d d′ : List ℕ} → Blank n d → Wrote d 0 (replicate n 0) d′ n → d′ ≡ d
+pub zeroed-kept : {n : ℕ} {d d′ : List ℕ} → Zeroed n d → Wrote d 0 (replicate n 0) d′ n → d′ ≡ d
 unfolding putAt
-blank-kept {n} {d} {d′} b w =
+zeroed-kept {n} {d} {d′} b w =
     let z : 0 + length (replicate {A = ℕ} n 0) ≡ n = omega (arith, length-replicate {A = ℕ} n 0) in
     w .holds
     ∙ ap (λ (k : ℕ). replicate n 0 ++ drop k d) z
@@ -36,15 +36,15 @@ blank-kept {n} {d} {d′} b w =
     ∙ take-append-drop n d
 
 -- room for more is room for less
-pub blank-less : {m n : ℕ} {d : List ℕ} → n ≤ m → Blank m d → Blank n d
-blank-less {m} {n} {d} h b = record {
+pub zeroed-less : {m n : ℕ} {d : List ℕ} → n ≤ m → Zeroed m d → Zeroed n d
+zeroed-less {m} {n} {d} h b = record {
   room = omega (arith, b .room);
   zeros = sym (take-take n m d h) ∙ ap (take n) (b .zeros) ∙ zeros-take n m refl h;
 }
 
-pub blank-as : {n : ℕ} {d d′ : List ℕ} → d′ ≡ d → Blank n d → Blank n d′
-blank-as e b = rw e b
+pub zeroed-as : {n : ℕ} {d d′ : List ℕ} → d′ ≡ d → Zeroed n d → Zeroed n d′
+zeroed-as e b = rw e b
 
 -- scratch that was wiped is blank
-pub blank-wiped : {n : ℕ} {d₀ d : List ℕ} → Wrote d₀ 0 (replicate n 0) d n → Blank n d
-blank-wiped {n} {d₀} {d} w = record { room = omega (arith, wrote-length w, w .fits, length-replicate {A = ℕ} n 0); zeros = wrote-part w }
+pub zeroed-wiped : {n : ℕ} {d₀ d : List ℕ} → Wrote d₀ 0 (replicate n 0) d n → Zeroed n d
+zeroed-wiped {n} {d₀} {d} w = record { room = omega (arith, wrote-length w, w .fits, length-replicate {A = ℕ} n 0); zeros = wrote-part w }
