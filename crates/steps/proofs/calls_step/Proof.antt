@@ -1,11 +1,11 @@
 -- `steps::calls_step` meets its contract. Assumes nothing.
 use borrow.Author.Needs.{needs}
-use mathlib.Core.Path.{ap, _∙_}
+use mathlib.Core.Path.{refl, ap, _∙_}
 use Prim.Native.Nat.{ℕ}
 use lib.ListN.{replicate}
 use Rattle.lines.specs.Lf.{unlines}
 use Rattle.lines.proofs.OutLaws.{wrote-as}
-use Rattle.calls.proofs.Wipes.{wiped-all}
+use Rattle.slots.proofs.SlotLaws.{wiped-zeros}
 use Rattle.steps.proofs.Tame.{calls-room}
 use Rattle.steps.proofs.StepLaws.{calls-mode, calls-left}
 use Rattle.steps.proofs.calls_step.Statement.{statement}
@@ -63,7 +63,7 @@ same-length-12 : tie.Need-same-length-12
 same-length-12 c = c .before .before .before .before .before .before .before .before .before .before .before .before .before .before .before .before .before .before .before .before .before .before .before .before .before .before .before .before .before .before .before .before .before .before .before .before .before .before .before .before .rebuild-calls .kept .1 .1 .1 .1 .1 .1 .1 .1 .1 .1 .1 .1 .1 .0
 
 returns : tie.Need-returns
-returns c = let p = c .before .before .before .before .before .before .before .before .before .before .before .before .before .before .before .before .before .before .before .before .before .before .before .before .before .before .before .before .before .before .before .before .before .before .before .before .before .before .before .before .rebuild-calls .ensures in let s = p .1 .1 .1 .0 in let z = p .1 .1 .1 .1 .0 in (wrote-as (ap unlines (calls-mode (c .before .before .before .before .before .before .before .before .before .before .before .before .before .before .before .before .before .before .before .before .before .before .before .before .before .before .before .before .before .before .before .before .before .before .before .before .before .before .before .before .before .before .before .before .before .before .before .before .before .before .before .before .before .before .before .before .before .before .before .before .before .before .before .before .before .before .before .args .m .mode .0) _)) (p .0), (calls-left _ _ (s .0) (s .1 .0) (s .1 .1) (p .1 .1 .0 .1 .1), (wiped-all (c .before .before .before .before .before .before .before .before .before .before .before .before .before .before .before .before .before .before .before .before .before .before .before .before .before .before .before .before .before .before .before .before .before .before .before .before .before .before .before .before .rebuild-calls .kept .1 .1 .1 .1 .1 .0) (c .before .before .before .before .before .before .before .before .before .before .before .before .before .before .wipe .ensures), (z .0, (z .1 .0, (z .1 .1, (c .before .before .before .before .before .before .before .before .before .before .wipe2 .ensures ∙ ap (λ (n : ℕ). replicate n 0) (c .before .before .before .before .before .before .before .before .before .before .before .before .before .before .before .before .before .before .before .before .before .before .before .before .before .before .before .before .before .before .before .before .before .before .before .before .before .before .before .before .rebuild-calls .kept .1 .1 .1 .0), (c .before .before .before .before .before .before .wipe3 .ensures ∙ ap (λ (n : ℕ). replicate n 0) (c .before .before .before .before .before .before .before .before .before .before .before .before .before .before .before .before .before .before .before .before .before .before .before .before .before .before .before .before .before .before .before .before .before .before .before .before .before .before .before .before .rebuild-calls .kept .1 .1 .0), c .before .before .wipe4 .ensures ∙ ap (λ (n : ℕ). replicate n 0) (c .before .before .before .before .before .before .before .before .before .before .before .before .before .before .before .before .before .before .before .before .before .before .before .before .before .before .before .before .before .before .before .before .before .before .before .before .before .before .before .before .rebuild-calls .kept .1 .1 .1 .1 .0)))))))))
+returns c = let p = c .before .before .before .before .before .before .before .before .before .before .before .before .before .before .before .before .before .before .before .before .before .before .before .before .before .before .before .before .before .before .before .before .before .before .before .before .before .before .before .before .rebuild-calls .ensures in let s = p .1 .1 .1 .0 in let z = p .1 .1 .1 .1 .0 in (wrote-as (ap unlines (calls-mode (c .before .before .before .before .before .before .before .before .before .before .before .before .before .before .before .before .before .before .before .before .before .before .before .before .before .before .before .before .before .before .before .before .before .before .before .before .before .before .before .before .before .before .before .before .before .before .before .before .before .before .before .before .before .before .before .before .before .before .before .before .before .before .before .before .before .before .before .args .m .mode .0) _)) (p .0), (calls-left _ _ (s .0) (s .1 .0) (s .1 .1) (p .1 .1 .0 .1 .1), (wiped-zeros refl (c .before .before .before .before .before .before .before .before .before .before .before .before .before .before .before .before .before .before .before .before .before .before .before .before .before .before .before .before .before .before .before .before .before .before .before .before .before .before .before .before .rebuild-calls .kept .1 .1 .1 .1 .1 .0) (c .before .before .before .before .before .before .before .before .before .before .before .before .before .before .wipe .ensures), (z .0, (z .1 .0, (z .1 .1, (c .before .before .before .before .before .before .before .before .before .before .wipe2 .ensures ∙ ap (λ (n : ℕ). replicate n 0) (c .before .before .before .before .before .before .before .before .before .before .before .before .before .before .before .before .before .before .before .before .before .before .before .before .before .before .before .before .before .before .before .before .before .before .before .before .before .before .before .before .rebuild-calls .kept .1 .1 .1 .0), (c .before .before .before .before .before .before .wipe3 .ensures ∙ ap (λ (n : ℕ). replicate n 0) (c .before .before .before .before .before .before .before .before .before .before .before .before .before .before .before .before .before .before .before .before .before .before .before .before .before .before .before .before .before .before .before .before .before .before .before .before .before .before .before .before .rebuild-calls .kept .1 .1 .0), c .before .before .wipe4 .ensures ∙ ap (λ (n : ℕ). replicate n 0) (c .before .before .before .before .before .before .before .before .before .before .before .before .before .before .before .before .before .before .before .before .before .before .before .before .before .before .before .before .before .before .before .before .before .before .before .before .before .before .before .before .rebuild-calls .kept .1 .1 .1 .1 .0)))))))))
 
 pub calls-step-spec : {M : Type 1} → statement M
 calls-step-spec =

@@ -1,10 +1,10 @@
 -- `steps::once_step` meets its contract. Assumes nothing.
 use borrow.Author.Needs.{needs}
-use mathlib.Core.Path.{ap, _∙_}
+use mathlib.Core.Path.{refl, ap, _∙_}
 use Prim.Native.Nat.{ℕ}
 use lib.ListN.{replicate}
 use Rattle.reading.specs.Reading.{readingOf}
-use Rattle.calls.proofs.Wipes.{wiped-all}
+use Rattle.slots.proofs.SlotLaws.{wiped-zeros}
 use Rattle.steps.proofs.Tame.{once-room}
 use Rattle.steps.proofs.StepLaws.{once-left}
 use Rattle.steps.proofs.once_step.Statement.{statement}
@@ -62,7 +62,7 @@ same-length-13 : tie.Need-same-length-13
 same-length-13 c = c .before .before .before .before .before .before .before .before .before .before .before .before .before .before .before .before .before .before .before .before .before .before .before .before .before .before .before .before .before .before .before .before .before .before .before .before .before .before .optimize-once .kept .1 .1 .1 .1 .1 .1 .1 .1 .1 .1 .1 .1 .1 .1 .1 .0
 
 returns : tie.Need-returns
-returns c = let p = c .before .before .before .before .before .before .before .before .before .before .before .before .before .before .before .before .before .before .before .before .before .before .before .before .before .before .before .before .before .before .before .before .before .before .before .before .before .before .optimize-once .ensures in let b = p .1 .0 in let z = p .1 .1 in (p .0, (once-left _ _ (b .0) (b .1 .0) (b .1 .1 .1 .1 .1), (wiped-all (c .before .before .before .before .before .before .before .before .before .before .before .before .before .before .before .before .before .before .before .before .before .before .before .before .before .before .before .before .before .before .before .before .before .before .before .before .before .before .optimize-once .kept .1 .1 .1 .1 .1 .0) (c .before .before .before .before .before .before .before .before .before .before .wipe .ensures), (wiped-all (c .before .before .before .before .before .before .before .before .before .before .before .before .before .before .before .before .before .before .before .before .before .before .before .before .before .before .before .before .before .before .before .before .before .before .before .before .before .before .optimize-once .kept .1 .1 .1 .1 .1 .1 .0) (c .before .before .before .before .before .before .wipe2 .ensures), (z .1 .1 .1 .0, (z .0, (z .1 .0, (z .1 .1 .0, (c .before .before .wipe3 .ensures ∙ ap (λ (n : ℕ). replicate n 0) (c .before .before .before .before .before .before .before .before .before .before .before .before .before .before .before .before .before .before .before .before .before .before .before .before .before .before .before .before .before .before .before .before .before .before .before .before .before .before .optimize-once .kept .1 .1 .1 .1 .1 .1 .1 .0), (z .1 .1 .1 .1 .0, z .1 .1 .1 .1 .1))))))))))
+returns c = let p = c .before .before .before .before .before .before .before .before .before .before .before .before .before .before .before .before .before .before .before .before .before .before .before .before .before .before .before .before .before .before .before .before .before .before .before .before .before .before .optimize-once .ensures in let b = p .1 .0 in let z = p .1 .1 in (p .0, (once-left _ _ (b .0) (b .1 .0) (b .1 .1 .1 .1 .1), (wiped-zeros refl (c .before .before .before .before .before .before .before .before .before .before .before .before .before .before .before .before .before .before .before .before .before .before .before .before .before .before .before .before .before .before .before .before .before .before .before .before .before .before .optimize-once .kept .1 .1 .1 .1 .1 .0) (c .before .before .before .before .before .before .before .before .before .before .wipe .ensures), (wiped-zeros refl (c .before .before .before .before .before .before .before .before .before .before .before .before .before .before .before .before .before .before .before .before .before .before .before .before .before .before .before .before .before .before .before .before .before .before .before .before .before .before .optimize-once .kept .1 .1 .1 .1 .1 .1 .0) (c .before .before .before .before .before .before .wipe2 .ensures), (z .1 .1 .1 .0, (z .0, (z .1 .0, (z .1 .1 .0, (c .before .before .wipe3 .ensures ∙ ap (λ (n : ℕ). replicate n 0) (c .before .before .before .before .before .before .before .before .before .before .before .before .before .before .before .before .before .before .before .before .before .before .before .before .before .before .before .before .before .before .before .before .before .before .before .before .before .before .optimize-once .kept .1 .1 .1 .1 .1 .1 .1 .0), (z .1 .1 .1 .1 .0, z .1 .1 .1 .1 .1))))))))))
 
 pub once-step-spec : {M : Type 1} → statement M
 once-step-spec =
