@@ -1,4 +1,4 @@
-pub mod Marks
 pub mod Fit
+pub mod Marks
 pub mod Walk
 pub mod Judged

@@ -1,6 +1,6 @@
 // A mark for each declared name: whether its region uses the register.
 ghost use mathlib.Core.Path.{_≡_};
-ghost use mathlib.Core.Bool.{true};
+ghost use mathlib.Core.Bool.{true, cond};
 ghost use Prim.Native.Nat.{_≤_, _+_};
 ghost use lib.ListN.{length, replicate};
 ghost use Rattle.lines.specs.Lf.{linesOf, partsOf};
@@ -8,7 +8,13 @@ ghost use Rattle.lines.specs.Inner.Out.{Wrote};
 ghost use Rattle.text.specs.Trim.{trimOf};
 ghost use Rattle.parse.specs.Parse.{isDecl};
 ghost use Rattle.decls.specs.Inner.Seen.{AtMost, Says};
+ghost use Rattle.pruned.specs.Inner.Fit.{digitsOf, tagOf};
 ghost use Rattle.pruned.specs.Inner.Marks.{namesMarks, lineMarks, marksOf};
+
+// So many digits count for a tag, and so many tags there are.
+const TAGGED: usize = 20;
+
+const TAGS: usize = 251;
 
 // Writes zeros up to a place.
 fn put_zeros(out: &mut [u8], o: usize, n: usize) -> usize
@@ -25,7 +31,42 @@ fn put_zeros(out: &mut [u8], o: usize, n: usize) -> usize
     p
 }
 
-// Writes the marks of the names of a declaration's body.
+// The digits of a name as it is printed: without the zeros that lead.
+fn digits(t: &[u8]) -> &[u8]
+    ensures { λ r. ⌜ now r ≡ digitsOf (now (t .entry)) ⌝ }
+{
+    let y = lines::cut(t, 1, t.len());
+    lines::cut(y, names::skip_zeros(y), y.len())
+}
+
+// What tells a name from others, by its digits, with which a text begins, up to `,` or `;`: a number from 2 on.
+pub fn tag_of(d: &[u8]) -> u8
+    ensures { λ r. ⌜ r ≡ tagOf (now (d .entry)) ⌝ }
+{
+    let s = lines::cut(d, 0, TAGGED);
+    let mut h = 0usize;
+    let mut i = 0;
+    while i < s.len() {
+        if (s[i] == b',') | (s[i] == b';') {
+            return h as u8 + 2;
+        }
+        h = (h * 10 + s[i] as usize) % TAGS;
+        i += 1;
+    }
+    h as u8 + 2
+}
+
+// The mark of a name: 1 where it stays, else its tag.
+fn mark_of(stays: bool, t: &[u8]) -> u8
+    ensures { λ r. ⌜ r ≡ cond stays 1 (tagOf (digitsOf (now (t .entry)))) ⌝ }
+{
+    if stays {
+        return 1;
+    }
+    tag_of(digits(t))
+}
+
+// Writes the marks of the names of a declaration's body, each where its piece begins.
 fn put_names(
     body: &[u8],
     region: &[u8],
@@ -44,7 +85,8 @@ fn put_names(
         let e = lines::find_byte(body, i, b',');
         let t = text::trim(&body[i..e]);
         let s = decls::stays_in(region, own, m, seen, t);
-        p = lines::put_byte(out, p, place::flag(s));
+        p = lines::put_byte(out, p, mark_of(s, t));
+        p = put_zeros(out, p, e - i);
         if e >= body.len() {
             return p;
         }

@@ -9,14 +9,17 @@ use Rattle.text.specs.Trim.{trimOf}
 use Rattle.parse.specs.Parse.{bodyOf, isDecl}
 use Rattle.place.specs.Region.{region, regionAt}
 use Rattle.decls.specs.Inner.Decls.{stays}
+use Rattle.pruned.specs.Inner.Fit.{tagOf, digitsOf}
 
--- the mark of a piece of a declaration: 1 where the region uses its register
+-- the mark of a piece of a declaration: 1 where the region uses its register, else the tag of its name
 abbrev pub markOf : List (List ℕ) → List ℕ → ℕ
-markOf run p = cond (stays run (trimOf p)) 1 0
+markOf run p = cond (stays run (trimOf p)) 1 (tagOf (digitsOf (trimOf p)))
 
+-- a byte for each of the pieces' bytes and commas, and one more: the mark stands where the piece begins
 unfoldable pub namesMarks : List (List ℕ) → List (List ℕ) → List ℕ
+unfolding tagOf
 namesMarks run [] = []
-namesMarks run (p ∷ ps) = markOf run p ∷ namesMarks run ps
+namesMarks run (p ∷ ps) = (markOf run p ∷ replicate (length p) 0) ++ namesMarks run ps
 
 -- those of a line: none where it is no declaration
 unfoldable pub ownMarks : List (List ℕ) → List ℕ → List ℕ
