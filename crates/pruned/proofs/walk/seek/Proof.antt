@@ -19,8 +19,8 @@ abbrev μ-loop : tie.MeasureT-loop
 loop-holds : tie.Need-loop-holds Inv-loop μ-loop
 loop-holds c = let s = c .before .before .before .before .args in let r = c .before .before .before .before .pre in seek-start (s .raw .now) (s .used .now) (s .p .now) (s .live .now) (s .lo) (s .at) (s .stop) (s .to) (s .top) (r .0 .0) (r .0 .1) (r .1 .0 .0) (r .1 .0 .1) (r .1 .1 .0) (r .1 .1 .1)
 
-find-byte-requires : tie.Need-find-byte-requires Inv-loop μ-loop
-find-byte-requires c κs = search needs
+find-far-requires : tie.Need-find-far-requires Inv-loop μ-loop
+find-far-requires c κs = search needs
 
 sub-may-be : tie.Need-sub-may-be Inv-loop μ-loop
 sub-may-be c = omega arith
@@ -29,7 +29,7 @@ part-may-be-start : tie.Need-part-may-be-start Inv-loop μ-loop
 part-may-be-start c = omega arith
 
 part-may-be-end : tie.Need-part-may-be-end Inv-loop μ-loop
-part-may-be-end c = omega (arith, find-le 10 (c .before .before .before .before .before .before .before .args .raw .now) (c .before .before .loop .i) (c .find-byte .result) (c .before .before .loop .inv .at .i≤) (c .find-byte .ensures))
+part-may-be-end c = omega (arith, find-le 10 (c .before .before .before .before .before .before .before .args .raw .now) (c .before .before .loop .i) (c .find-far .result) (c .before .before .loop .inv .at .i≤) (c .find-far .ensures))
 
 cut-requires : tie.Need-cut-requires Inv-loop μ-loop
 cut-requires c κs = search needs
@@ -41,13 +41,13 @@ add-walk : tie.Need-add-walk Inv-loop μ-loop
 add-walk c = omega (arith, c .before .before .before .before .before .before .loop .inv .room)
 
 walk-requires : tie.Need-walk-requires Inv-loop μ-loop
-walk-requires c κs = ((seek-found (c .before .before .before .before .before .before .before .loop .inv) (c .before .before .before .before .before .before .loop-test .taken) (c .before .before .before .before .before .find-byte .result) (c .before .before .before .before .before .find-byte .ensures) (c .before .before .before .cut .result .now) (c .before .before .before .cut .ensures) (c .before .before .may-be .result) (c .before .before .may-be .ensures) (c .before .if1 .taken)) .i≤, c .before .before .before .before .before .before .before .loop .inv .above)
+walk-requires c κs = ((seek-found (c .before .before .before .before .before .before .before .loop .inv) (c .before .before .before .before .before .before .loop-test .taken) (c .before .before .before .before .before .find-far .result) (c .before .before .before .before .before .find-far .ensures) (c .before .before .before .cut .result .now) (c .before .before .before .cut .ensures) (c .before .before .may-be .result) (c .before .before .may-be .ensures) (c .before .if1 .taken)) .i≤, c .before .before .before .before .before .before .before .loop .inv .above)
 
 same-length : tie.Need-same-length Inv-loop μ-loop
 same-length c = c .before .before .walk .kept .1 .1 .1 .1 .1 .1 .1 .1 .0 ∙ c .before .before .before .before .before .before .before .before .before .before .loop .inv .long
 
 returns : tie.Need-returns Inv-loop μ-loop
-returns c = seek-done (seek-found (c .before .before .before .before .before .before .before .before .before .before .loop .inv) (c .before .before .before .before .before .before .before .before .before .loop-test .taken) (c .before .before .before .before .before .before .before .before .find-byte .result) (c .before .before .before .before .before .before .before .before .find-byte .ensures) (c .before .before .before .before .before .before .cut .result .now) (c .before .before .before .before .before .before .cut .ensures) (c .before .before .before .before .before .may-be .result) (c .before .before .before .before .before .may-be .ensures) (c .before .before .before .before .if1 .taken)) (c .before .before .walk .ensures)
+returns c = seek-done (seek-found (c .before .before .before .before .before .before .before .before .before .before .loop .inv) (c .before .before .before .before .before .before .before .before .before .loop-test .taken) (c .before .before .before .before .before .before .before .before .find-far .result) (c .before .before .before .before .before .before .before .before .find-far .ensures) (c .before .before .before .before .before .before .cut .result .now) (c .before .before .before .before .before .before .cut .ensures) (c .before .before .before .before .before .may-be .result) (c .before .before .before .before .before .may-be .ensures) (c .before .before .before .before .if1 .taken)) (c .before .before .walk .ensures)
 
 add-k : tie.Need-add-k Inv-loop μ-loop
 add-k c = omega (arith, c .before .before .before .before .before .loop-test .taken, c .before .before .before .before .before .before .loop .inv .room)
@@ -62,7 +62,7 @@ loop-less : tie.Need-loop-less Inv-loop μ-loop
 loop-less c = omega (arith, c .before .before .before .before .before .before .loop-test .taken)
 
 loop-again : tie.Need-loop-again Inv-loop μ-loop
-loop-again c = seek-on (c .before .before .before .before .before .before .before .loop .inv) (c .before .before .before .before .before .before .loop-test .taken) (c .before .before .before .before .before .find-byte .result) (c .before .before .before .before .before .find-byte .ensures) (c .before .before .before .cut .result .now) (c .before .before .before .cut .ensures) (c .before .before .may-be .result) (c .before .before .may-be .ensures) (c .before .if1 .left) (c .after .result) (c .after .ensures)
+loop-again c = seek-on (c .before .before .before .before .before .before .before .loop .inv) (c .before .before .before .before .before .before .loop-test .taken) (c .before .before .before .before .before .find-far .result) (c .before .before .before .before .before .find-far .ensures) (c .before .before .before .cut .result .now) (c .before .before .before .cut .ensures) (c .before .before .may-be .result) (c .before .before .may-be .ensures) (c .before .if1 .left) (c .after .result) (c .after .ensures)
 
 add-walk-2 : tie.Need-add-walk-2 Inv-loop μ-loop
 add-walk-2 c = search needs
@@ -83,7 +83,7 @@ seek-spec =
     Inv-loop
     μ-loop
     loop-holds
-    find-byte-requires
+    find-far-requires
     sub-may-be
     part-may-be-start
     part-may-be-end

@@ -21,8 +21,8 @@ returns c = let s = c .before .before .before .before .args in stretch-known (s 
 loop-holds : tie.Need-loop-holds Inv-loop μ-loop
 loop-holds c = let s = c .before .before .before .before .args in stretch-start (s .raw .now) (s .used .now) (s .live .now) (s .lo) (s .at) (c .before .before .before .before .pre .0 .0) (c .before .before .before .before .pre .0 .1) (c .before .before .before .before .pre .1 .0)
 
-find-byte-requires : tie.Need-find-byte-requires Inv-loop μ-loop
-find-byte-requires c κs = search needs
+find-far-requires : tie.Need-find-far-requires Inv-loop μ-loop
+find-far-requires c κs = search needs
 
 sub-may-go : tie.Need-sub-may-go Inv-loop μ-loop
 sub-may-go c = omega arith
@@ -31,7 +31,7 @@ part-may-go-start : tie.Need-part-may-go-start Inv-loop μ-loop
 part-may-go-start c = omega arith
 
 part-may-go-end : tie.Need-part-may-go-end Inv-loop μ-loop
-part-may-go-end c = omega (arith, find-le 10 (c .before .before .before .before .before .before .before .args .raw .now) (c .before .before .loop .i) (c .find-byte .result) (c .before .before .loop .inv .i≤) (c .find-byte .ensures))
+part-may-go-end c = omega (arith, find-le 10 (c .before .before .before .before .before .before .before .args .raw .now) (c .before .before .loop .i) (c .find-far .result) (c .before .before .loop .inv .i≤) (c .find-far .ensures))
 
 cut-requires : tie.Need-cut-requires Inv-loop μ-loop
 cut-requires c κs = search needs
@@ -58,10 +58,10 @@ after-requires : tie.Need-after-requires Inv-loop μ-loop
 after-requires c κs = search needs
 
 loop-less : tie.Need-loop-less Inv-loop μ-loop
-loop-less c = omega (arith, c .after .ensures, c .before .before .before .before .before .before .before .find-byte .ensures, c .before .before .before .before .before .before .before .before .loop-test .taken)
+loop-less c = omega (arith, c .after .ensures, c .before .before .before .before .before .before .before .find-far .ensures, c .before .before .before .before .before .before .before .before .loop-test .taken)
 
 loop-again : tie.Need-loop-again Inv-loop μ-loop
-loop-again c = stretch-on (c .before .before .before .before .before .before .before .before .before .loop .inv) (c .before .before .before .before .before .before .before .before .loop-test .taken) (c .before .before .before .before .before .before .before .find-byte .result) (c .before .before .before .before .before .before .before .find-byte .ensures) (c .before .before .before .before .before .cut .result .now) (c .before .before .before .before .before .cut .ensures) (c .before .before .before .before .may-go .result) (c .before .before .before .before .may-go .ensures) (not-false _ (c .before .before .before .if2 .left)) (c .before .before .byte-at .result) (c .before .before .byte-at .ensures) (c .before .if3 .left) (c .after .result) (c .after .ensures)
+loop-again c = stretch-on (c .before .before .before .before .before .before .before .before .before .loop .inv) (c .before .before .before .before .before .before .before .before .loop-test .taken) (c .before .before .before .before .before .before .before .find-far .result) (c .before .before .before .before .before .before .before .find-far .ensures) (c .before .before .before .before .before .cut .result .now) (c .before .before .before .before .before .cut .ensures) (c .before .before .before .before .may-go .result) (c .before .before .before .before .may-go .ensures) (not-false _ (c .before .before .before .if2 .left)) (c .before .before .byte-at .result) (c .before .before .byte-at .ensures) (c .before .if3 .left) (c .after .result) (c .after .ensures)
 
 returns-4 : tie.Need-returns-4 Inv-loop μ-loop
 returns-4 c = stretch-done (c .before .loop .inv)
@@ -74,7 +74,7 @@ stretch-spec =
     μ-loop
     returns
     loop-holds
-    find-byte-requires
+    find-far-requires
     sub-may-go
     part-may-go-start
     part-may-go-end
