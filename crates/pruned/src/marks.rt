@@ -50,7 +50,7 @@ pub fn tag_of(d: &[u8]) -> u8
         if (s[i] == b',') | (s[i] == b';') {
             return h as u8 + 2;
         }
-        h = (h * 10 + s[i] as usize) % TAGS;
+        h = (h * 10 + s[i] as usize % 16) % TAGS;
         i += 1;
     }
     h as u8 + 2

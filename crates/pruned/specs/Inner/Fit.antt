@@ -29,10 +29,10 @@ goesOn c n q = cond (prefixed (c ∷ ascii " ") q) (cond (eqb (nameLen n (drop 2
 
 -- ---- what tells names apart, so that most are passed over unread
 
--- the bytes up to a stop as a number, the rest of its division by 251; h stands for those before
+-- the bytes up to a stop read as digits, the rest of the number by 251; h stands for those before
 unfoldable pub tagGo : List ℕ → ℕ → ℕ
 tagGo [] h = h
-tagGo (x ∷ d) h = cond (isStop x) h (tagGo d ((h * 10 + x) % 251))
+tagGo (x ∷ d) h = cond (isStop x) h (tagGo d ((h * 10 + x % 16) % 251))
 
 -- the tag of the digits of a name, with which a text begins: a number from 2 on, by the first twenty
 unfoldable pub tagOf : List ℕ → ℕ
