@@ -5,6 +5,7 @@ pub mod Headers
 pub mod Instance
 pub mod Room
 pub mod Sent
+pub mod Moves
 pub mod Listings
 pub mod Signs
 pub mod StepLaws

@@ -1,7 +1,6 @@
 pub mod Cuts
 pub mod Split
 pub mod Texts
-pub mod Owners
 pub mod Strict
 pub mod Answers
 pub mod Ties

@@ -1,17 +1,25 @@
--- rebuild_calls takes a line only into a call line below it, and from there on, line by line, one comes to a line that stands. Assumes nothing.
+-- rebuild_calls takes a line only into a call line below it, and from there on, line by line, one comes to a line that stands: none is lost. The table of
+-- owners is the table of moves. Assumes nothing.
 use Prim.Native.Nat.{ℕ, zero, suc, _<_}
 use mathlib.Core.Path.{_≡_, refl, sym, ap, _∙_}
 use mathlib.Core.Bool.{Bool, true, false, _&&_, _||_}
 use mathlib.Core.List.{List, [], _∷_}
 use native.Mathlib.Omega.{arith}
+use borrow.Author.Tests.{lt-ltb}
 use lib.ListN.{length, drop}
+use Rattle.lines.specs.Lf.{all}
 use Rattle.lines.specs.Acts.{Act, keep, become, into, gone}
 use Rattle.lines.proofs.Tests.{no, and-left, and-right, and-both}
+use Rattle.origins.specs.Fates.{Fate, at, held, lost, taken, fateAt, fatesGo, fatesOf}
+use Rattle.origins.specs.Inner.Codes.{moveOf, movesOf}
+use Rattle.origins.proofs.FateLaws.{fates-length}
+use Rattle.origins.proofs.CodeLaws as codes
 use Rattle.calls.specs.Leaves.{Leaves}
 use Rattle.calls.specs.Calls.{Item, Row, Step, end, skip, absorb, linesIn, linesOn, climb, made, tries, itemsOf, actsUp, readLater, stepAt, walk, turn, rowsOf, rebuildCallsActs}
+use Rattle.calls.specs.Inner.Tables.{ownerOf, ownersOf}
 use Rattle.calls.proofs.Cut.{walk-step}
 use Rattle.calls.proofs.Edges.{items-on}
 use Rattle.calls.proofs.Told.{turn-lines}
 
 -- line n of some lines, the first being line 0, is there and is a call line
 unfoldable pub callAt : (List ℕ → Bool) → ℕ → List (List ℕ) → Bool
@@ -40,7 +48,7 @@ sound call (a ∷ more) (l ∷ ls) = lands call a ls && sound call more ls
 pub data Stays : List Act → Type 0 where
   kept : {more : List Act} → Stays (keep ∷ more)
   changed : {t : List ℕ} {more : List Act} → Stays (become t ∷ more)
-  taken : {n : ℕ} {more : List Act} → Stays (drop n more) → Stays (into (suc n) ∷ more)
+  moved : {n : ℕ} {more : List Act} → Stays (drop n more) → Stays (into (suc n) ∷ more)
 
 -- ---- then each line comes to one that stands
 
@@ -63,7 +71,7 @@ unfolding lands
 first-stays call keep more ls h q k = kept
 first-stays call (become t) more ls h q k = changed
 first-stays call (into zero) more ls h q k = no h
-first-stays call (into (suc n)) more ls h q k = let i = call-inside call n ls h in taken (k n (omega (arith, i, q)))
+first-stays call (into (suc n)) more ls h q k = let i = call-inside call n ls h in moved (k n (omega (arith, i, q)))
 first-stays call gone more ls h q k = no h
 
 sound-stays : (call : List ℕ → Bool) (acts : List Act) (ls : List (List ℕ)) → sound call acts ls ≡ true → (n : ℕ) → n < length acts → Stays (drop n acts)
@@ -74,6 +82,63 @@ sound-stays call (a ∷ more) (l ∷ ls) h zero k =
     let r = and-right (lands call a ls) (sound call more ls) h in
     first-stays call a more ls (and-left (lands call a ls) (sound call more ls) h) (sound-length call more ls r) (sound-stays call more ls r)
 sound-stays call (a ∷ more) (l ∷ ls) h (suc n) k = sound-stays call more ls (and-right (lands call a ls) (sound call more ls) h) n (omega arith)
+
+-- ---- by their fates: none is lost
+
+unfoldable pub found : Fate → Bool
+found (at n) = true
+found (held n) = true
+found lost = false
+
+taken-found : (f : Fate) → found f ≡ true → found (taken f) ≡ true
+unfolding found taken
+taken-found (at n) h = refl
+taken-found (held n) h = refl
+taken-found lost h = h
+
+at-found : (fs : List Fate) (n : ℕ) → all found fs ≡ true → n < length fs → found (fateAt fs n) ≡ true
+unfolding fateAt
+at-found [] n h k = absurd (omega arith)
+at-found (f ∷ fs) zero h k = and-left (found f) (all found fs) h
+at-found (f ∷ fs) (suc n) h k = at-found fs n (and-right (found f) (all found fs) h) (omega arith)
+
+sound-found : (call : List ℕ → Bool) (acts : List Act) (ls : List (List ℕ)) (o : ℕ) → sound call acts ls ≡ true → all found (fatesGo acts o) ≡ true
+unfolding sound lands fatesGo fateAt found
+sound-found call [] ls o h = refl
+sound-found call (a ∷ more) [] o h = no h
+sound-found call (keep ∷ more) (l ∷ ls) o h = sound-found call more ls (suc o) h
+sound-found call (become t ∷ more) (l ∷ ls) o h = sound-found call more ls (suc o) h
+sound-found call (into zero ∷ more) (l ∷ ls) o h = no h
+sound-found call (into (suc n) ∷ more) (l ∷ ls) o h =
+    let s = and-right (callAt call n ls) (sound call more ls) h in
+    let r = sound-found call more ls o s in
+    let i = call-inside call n ls (and-left (callAt call n ls) (sound call more ls) h) in
+    let k : n < length (fatesGo more o) = omega (arith, i, sound-length call more ls s, fates-length more o) in
+    and-both (taken-found (fateAt (fatesGo more o) n) (at-found (fatesGo more o) n r k)) r
+sound-found call (gone ∷ more) (l ∷ ls) o h = no h
+
+-- ---- how far each line goes is how far below it its owner stands
+
+sound-moves : (call : List ℕ → Bool) (acts : List Act) (ls : List (List ℕ)) → sound call acts ls ≡ true → movesOf acts ≡ ownersOf acts
+unfolding sound lands movesOf moveOf ownersOf ownerOf
+sound-moves call [] ls h = refl
+sound-moves call (a ∷ more) [] h = no h
+sound-moves call (keep ∷ more) (l ∷ ls) h = ap (λ (r : List ℕ). 0 ∷ r) (sound-moves call more ls h)
+sound-moves call (become t ∷ more) (l ∷ ls) h = ap (λ (r : List ℕ). 0 ∷ r) (sound-moves call more ls h)
+sound-moves call (into zero ∷ more) (l ∷ ls) h = no h
+sound-moves call (into (suc n) ∷ more) (l ∷ ls) h = ap (λ (r : List ℕ). suc n ∷ r) (sound-moves call more ls (and-right (callAt call n ls) (sound call more ls) h))
+sound-moves call (gone ∷ more) (l ∷ ls) h = no h
+
+-- and none goes into itself
+sound-down : (call : List ℕ → Bool) (acts : List Act) (ls : List (List ℕ)) → sound call acts ls ≡ true → all codes.sound acts ≡ true
+unfolding sound lands
+sound-down call [] ls h = refl
+sound-down call (a ∷ more) [] h = no h
+sound-down call (keep ∷ more) (l ∷ ls) h = sound-down call more ls h
+sound-down call (become t ∷ more) (l ∷ ls) h = sound-down call more ls h
+sound-down call (into zero ∷ more) (l ∷ ls) h = no h
+sound-down call (into (suc n) ∷ more) (l ∷ ls) h = and-both (lt-ltb 0 (suc n) (omega arith)) (sound-down call more ls (and-right (callAt call n ls) (sound call more ls) h))
+sound-down call (gone ∷ more) (l ∷ ls) h = no h
 
 -- lines, the nearest first, on top of others
 unfoldable upon : List (List ℕ) → List (List ℕ) → List (List ℕ)
@@ -160,3 +225,16 @@ module _ (L : Leaves) where
   calls-stay ls n h =
       let q = sound-length (L .call) (rebuildCallsActs L ls) ls (calls-sound ls) in
       sound-stays (L .call) (rebuildCallsActs L ls) ls (calls-sound ls) n (omega (arith, q))
+
+  -- in the end none is lost: each stands, or one that stands holds its value
+  pub calls-found : (ls : List (List ℕ)) → all found (fatesOf (rebuildCallsActs L ls)) ≡ true
+  unfolding fatesOf
+  calls-found ls = sound-found (L .call) (rebuildCallsActs L ls) ls 0 (calls-sound ls)
+
+  -- the table of owners is the table of moves
+  pub calls-moves : (ls : List (List ℕ)) → movesOf (rebuildCallsActs L ls) ≡ ownersOf (rebuildCallsActs L ls)
+  calls-moves ls = sound-moves (L .call) (rebuildCallsActs L ls) ls (calls-sound ls)
+
+  -- and a table of moves that lead down
+  pub calls-down : (ls : List (List ℕ)) → all codes.sound (rebuildCallsActs L ls) ≡ true
+  calls-down ls = sound-down (L .call) (rebuildCallsActs L ls) ls (calls-sound ls)
