@@ -4,7 +4,7 @@ use mathlib.Core.Path.{_≡_, refl, sym, ap}
 use mathlib.Core.Bool.{Bool, true, false, _||_}
 use mathlib.Core.List.{List}
 use native.Mathlib.Omega.{arith}
-use lib.ListN.{length, replicate, length-replicate, length-take, length-drop, length-map}
+use lib.ListN.{length, replicate, length-replicate, length-take, length-drop}
 use Rattle.lines.specs.Lf.{part, countOf, linesOf, unlines}
 use Rattle.lines.specs.Steps.{splitLines}
 use Rattle.lines.proofs.Counts.{split-lines}
