@@ -22,10 +22,10 @@ ghost use Rattle.decls.specs.Inner.Seen.{AtMost};
 ghost use Rattle.decls.specs.Inner.Print.{kept, declText};
 ghost use Rattle.reading.specs.Reading.{plain};
 ghost use Rattle.reading.specs.Uses.{lineStores};
-ghost use Rattle.bind.specs.Bind.{spots, pieceCount, declCount, storeCount, promoted, bindDeclarators};
+ghost use Rattle.bind.specs.Bind.{blockLines, pieceCount, declCount, storeCount, promoted, bindDeclarators};
 ghost use Rattle.bind.specs.Inner.Index.{siteSeen, siteFirst, Ready, ReadyFor};
 ghost use Rattle.bind.specs.Inner.Steps.{lineOf, belowOf, useRow, storesAt, boundAt, markRow, passes, left, anyPass, noted, notedAll, otherText, siteText, siteMarks, bindMarks, Reach};
-ghost use Rattle.bind.specs.Inner.Sites.{stopBy, firstSite, siteOf, Walked};
+ghost use Rattle.bind.specs.Inner.Sites.{stopBy, firstSite, siteOf, WalkedSites};
 
 // A line of the text and its region: the region begins at `top` and ends at `end`, the line goes from `from` to `to` and the one below
 // begins at `next`, there are `row` lines above it, and it stands in the block `block`.
@@ -615,7 +615,7 @@ fn walk_lines(
     recs: &mut [records::LineRec],
 ) -> usize
     requires { ⌜ (0 < length (now recs)) × (((length (now seen) ≡ length (now first)) × ((AtMost 0 (now seen)) × (AtMost 0 (now first))))
-        × (Walked (now text) (now ends) n (now blocks) (now starts) (now marks) (now out))) ⌝ }
+        × (WalkedSites (now text) (now ends) n (now blocks) (now starts) (now marks) (now out))) ⌝ }
     ensures answer { λ r. ⌜ Wrote (now (out .entry)) 0 (unlines (bindDeclarators plain (linesOf (now (text .entry))))) (now (out .exit)) r ⌝ }
     ensures memory { λ _. ⌜ Filled (now (marks .entry)) (flagsOf (bindMarks plain (linesOf (now (text .entry))))) (now (marks .exit)) (length (linesOf (now (text .entry)))) ⌝ }
 {
@@ -649,7 +649,7 @@ fn walk_window(
     out: &mut [u8],
 ) -> usize
     requires { ⌜ ((length (now seen) ≡ length (now first)) × ((AtMost 0 (now seen)) × (AtMost 0 (now first))))
-        × (Walked (now text) (now ends) n (now blocks) (now starts) (now marks) (now out)) ⌝ }
+        × (WalkedSites (now text) (now ends) n (now blocks) (now starts) (now marks) (now out)) ⌝ }
     ensures answer { λ r. ⌜ Wrote (now (out .entry)) 0 (unlines (bindDeclarators plain (linesOf (now (text .entry))))) (now (out .exit)) r ⌝ }
     ensures memory { λ _. ⌜ Filled (now (marks .entry)) (flagsOf (bindMarks plain (linesOf (now (text .entry))))) (now (marks .exit)) (length (linesOf (now (text .entry)))) ⌝ }
 {
@@ -682,7 +682,7 @@ fn walk(
     marks: &mut [u8],
     out: &mut [u8],
 ) -> usize
-    requires { ⌜ Walked (now text) (now ends) n (now blocks) (now starts) (now marks) (now out) ⌝ }
+    requires { ⌜ WalkedSites (now text) (now ends) n (now blocks) (now starts) (now marks) (now out) ⌝ }
     ensures answer { λ r. ⌜ Wrote (now (out .entry)) 0 (unlines (bindDeclarators plain (linesOf (now (text .entry))))) (now (out .exit)) r ⌝ }
     ensures memory { λ _. ⌜ Filled (now (marks .entry)) (flagsOf (bindMarks plain (linesOf (now (text .entry))))) (now (marks .exit)) (length (linesOf (now (text .entry)))) ⌝ }
     ensures index { λ _. ⌜ (now (seen .exit) ≡ replicate (length (now (seen .entry))) 0) × (now (first .exit) ≡ replicate (length (now (first .entry))) 0) ⌝ }

@@ -25,7 +25,7 @@ use Rattle.calls.specs.declared.Made.{Made}
 use Rattle.calls.specs.declared.Made.the-variants as made
 use Rattle.calls.specs.Leaves.{Leaves, Parsed, store, other}
 use Rattle.calls.specs.LeavesOf.{parsedBy, parsedOf, startsBelow, leavesOf}
-use Rattle.calls.specs.Calls.{Item, Row, Walked, Step, end, skip, absorb, linesIn, climb, made, has, actsUp, readLater, storeStep, stepAt, walk}
+use Rattle.calls.specs.Calls.{Item, Row, Walked, Step, end, skip, absorb, rowLines, climb, made, has, actsUp, readLater, storeStep, stepAt, walk}
 use Rattle.calls.specs.Inner.Steps.{absorbStep, PutAs, ends, puts}
 use Rattle.calls.specs.Inner.Later.{Noted, Spans}
 use Rattle.calls.specs.Inner.Tables.{ownerOf, ownersOf, rowsAt, walkAt, lineAt, Keeps, Stands, Placed, Foot, Peaked}
@@ -76,8 +76,8 @@ pub record ClimbAt (t : List ℕ) (n i f : ℕ) (bs fs owner₀ stack : List ℕ
   pub many : length rest ≡ k
   pub above : take p t ≡ unlines (given rest)
   pub p≤ : p ≤ i
-  pub between : part p i t ≡ unlines (linesIn back)
-  pub clear : noLf (linesIn back) ≡ true
+  pub between : part p i t ≡ unlines (rowLines back)
+  pub clear : noLf (rowLines back) ≡ true
   pub owners : take k owner ≡ ownersOf (actsUp rest [])
   pub behind : part k n owner ≡ ownersIn back
   pub beyond : drop n owner ≡ drop n owner₀
@@ -134,7 +134,7 @@ pub climb-start : {t : List ℕ} {n i f : ℕ} {bs fs owner stack : List ℕ} {o
     Keeps t n (rowsAt t n) owner stack o → Stands t n i f → Placed t bs fs → Foot t n over cur size →
     o + size ≤ length cur → o + size ≤ length next →
     Climb t n i f bs fs owner stack (o + size) cur next owner cur next n i o size over 0
-unfolding climb unlines linesIn noLf ownersIn act made
+unfolding climb unlines rowLines noLf ownersIn act made
 climb-start {t} {n} {i} {f} {bs} {fs} {owner} {stack} {o} {size} {cur} {next} {over} e s p q a b =
     let w : walkAt t n ≡ walk (leavesOf plain) (getD bs n 0) (λ v. readLater (leavesOf plain) v (linesOf (drop f t))) climb (rowsAt t n) 1 over (lineAt t n) [] [] =
     walk-is t n (s .within)
@@ -288,7 +288,7 @@ module _ {t : List ℕ} {n i f : ℕ} {bs fs owner₀ stack : List ℕ} {m : ℕ
 
 module _ {t : List ℕ} {n i f : ℕ} {bs fs owner₀ stack : List ℕ} {m : ℕ} {cur₀ next₀ owner cur next : List ℕ} {k p h c : ℕ} {over : Bool} {steps : ℕ}
     (v : Turning t n i f bs fs owner₀ stack m cur₀ next₀ owner cur next k p h c over steps) where
-  told-here : RowTold bs fs (v .row .item) (linesIn (v .rest))
+  told-here : RowTold bs fs (v .row .item) (rowLines (v .rest))
   unfolding Told
   told-here = v .at .told .0
 
@@ -305,7 +305,7 @@ module _ {t : List ℕ} {n i f : ℕ} {bs fs owner₀ stack : List ℕ} {m : ℕ
   pub step-some : steps < 64
   step-some = omega (arith, v .at .last)
 
-  index : length (linesIn (v .rest)) ≡ k - 1
+  index : length (rowLines (v .rest)) ≡ k - 1
   index = lines-many (v .rest) ∙ omega (arith, v .at .many)
 
   up-here : 1 ≤ v .d
@@ -354,16 +354,16 @@ module _ {t : List ℕ} {n i f : ℕ} {bs fs owner₀ stack : List ℕ} {m : ℕ
 
   -- the lines passed, with this one
   module _ (q : ℕ) (z : q ≡ lineStart t (p - 1)) where
-    pub between-on : part q i t ≡ unlines (v .row .item .line ∷ linesIn (v .back))
+    pub between-on : part q i t ≡ unlines (v .row .item .line ∷ rowLines (v .back))
     unfolding unlines
     between-on =
         let w = text-line q z in
         part-join t q p i (omega (arith, w .whole)) (v .at .p≤)
         ∙ ap (λ (x : List ℕ). x ++ part p i t) (w .ended)
         ∙ ap (λ (x : List ℕ). (v .row .item .line ++ 10 ∷ []) ++ x) (v .at .between)
-        ∙ append-assoc (v .row .item .line) (10 ∷ []) (unlines (linesIn (v .back)))
+        ∙ append-assoc (v .row .item .line) (10 ∷ []) (unlines (rowLines (v .back)))
 
-    clear-on : noLf (v .row .item .line ∷ linesIn (v .back)) ≡ true
+    clear-on : noLf (v .row .item .line ∷ rowLines (v .back)) ≡ true
     unfolding noLf
     clear-on = and-both (told-here .clear) (v .at .clear)
 
@@ -406,14 +406,14 @@ module _ {t : List ℕ} {n i f : ℕ} {bs fs owner₀ stack : List ℕ} {m : ℕ
     drop-end r e y =
         peak (v .ground) (v .same-owner) (v .same-cur) (v .at)
         (edge-end (v .at .walks)
-        (ap (λ (x : Act). stepAt (leavesOf plain) (getD bs n 0) (λ u. readLater (leavesOf plain) u (linesOf (drop f t))) x (v .row .item) (v .d) over (v .text) (v .took) (v .lines) (linesIn (v .rest))) went-here
+        (ap (λ (x : Act). stepAt (leavesOf plain) (getD bs n 0) (λ u. readLater (leavesOf plain) u (linesOf (drop f t))) x (v .row .item) (v .d) over (v .text) (v .took) (v .lines) (rowLines (v .rest))) went-here
         ∙ ap (λ (x : Bool). cond x skip end) (ours-is r e ∙ y)))
 
     -- it is
     pub drop-on : (q : ℕ) (z : q ≡ lineStart t (p - 1)) (r : Bool) → r ≡ eqb (getD owner (k - 1 + getD owner (k - 1) 0) 0) (n - (k - 1 + getD owner (k - 1) 0)) → r ≡ true →
         (x : List ℕ) → x ≡ part q (p - 1) t → (y : Bool) → y ≡ isHeader x →
         Climb t n i f bs fs owner₀ stack m cur₀ next₀ owner cur next (k - 1) q h c (over || y) (steps + 1)
-    unfolding linesIn ownersIn standing act
+    unfolding rowLines ownersIn standing act
     drop-on q z r e y x a b s =
         let w = text-line q z in
         record {
@@ -469,10 +469,10 @@ module _ {t : List ℕ} {n i f : ℕ} {bs fs owner₀ stack : List ℕ} {m : ℕ
 
     -- the step that the definition takes here
     abbrev step-here : Step
-    step-here = stepAt (leavesOf plain) (getD bs n 0) (λ u. readLater (leavesOf plain) u (linesOf (drop f t))) (v .row .act) (v .row .item) (v .d) over (v .text) (v .took) (v .lines) (linesIn (v .rest))
+    step-here = stepAt (leavesOf plain) (getD bs n 0) (λ u. readLater (leavesOf plain) u (linesOf (drop f t))) (v .row .act) (v .row .item) (v .d) over (v .text) (v .took) (v .lines) (rowLines (v .rest))
 
-    store-here : step-here ≡ storeStep (leavesOf plain) (getD bs n 0) (λ u. readLater (leavesOf plain) u (linesOf (drop f t))) (parsedOf (up-row .text)) over (v .text) (v .lines) (v .row .item .block) (linesIn (v .rest))
-    store-here = row-stands (leavesOf plain) (getD bs n 0) (λ u. readLater (leavesOf plain) u (linesOf (drop f t))) (v .row .act) (v .row .item) (up-row .text) (v .d) over (v .text) (v .took) (v .lines) (linesIn (v .rest)) (up-row .is)
+    store-here : step-here ≡ storeStep (leavesOf plain) (getD bs n 0) (λ u. readLater (leavesOf plain) u (linesOf (drop f t))) (parsedOf (up-row .text)) over (v .text) (v .lines) (v .row .item .block) (rowLines (v .rest))
+    store-here = row-stands (leavesOf plain) (getD bs n 0) (λ u. readLater (leavesOf plain) u (linesOf (drop f t))) (v .row .act) (v .row .item) (up-row .text) (v .d) over (v .text) (v .took) (v .lines) (rowLines (v .rest)) (up-row .is)
 
     step-end : step-here ≡ end → Peaked t n owner₀ owner stack cur h c m
     step-end e = peak (v .ground) (v .same-owner) (v .same-cur) (v .at) (edge-end (v .at .walks) e)
@@ -485,7 +485,7 @@ module _ {t : List ℕ} {n i f : ℕ} {bs fs owner₀ stack : List ℕ} {m : ℕ
       pub other-end : parsedBy w (parseOf w) ≡ other → Peaked t n owner₀ owner stack cur h c m
       unfolding storeStep parsedOf
       other-end y =
-          step-end (store-here ∙ ap (λ (x : Parsed). storeStep (leavesOf plain) (getD bs n 0) (λ u. readLater (leavesOf plain) u (linesOf (drop f t))) x over (v .text) (v .lines) (v .row .item .block) (linesIn (v .rest)))
+          step-end (store-here ∙ ap (λ (x : Parsed). storeStep (leavesOf plain) (getD bs n 0) (λ u. readLater (leavesOf plain) u (linesOf (drop f t))) x over (v .text) (v .lines) (v .row .item .block) (rowLines (v .rest)))
           (ap parsedOf (sym text-here) ∙ y))
 
       -- it is one
@@ -495,11 +495,11 @@ module _ {t : List ℕ} {n i f : ℕ} {bs fs owner₀ stack : List ℕ} {m : ℕ
         parsed-here = ap parsedOf (sym text-here) ∙ ap (parsedBy w) y ∙ ap (store (s .reg .0)) (sym u)
 
         absorb-here : step-here
-            ≡ cond (not over && (eqb (v .row .item .block) (getD bs n 0) && startsBelow plain (linesIn (v .rest)))) (absorbStep plain (v .text) (s .reg .0) val (linesOf (drop f t)) (linesIn (v .back)) (ownersIn (v .back))) end
-        absorb-here = store-here ∙ store-absorb plain (getD bs n 0) (linesOf (drop f t)) (v .at .walks .past) (up-row .text) (s .reg .0) val parsed-here over (v .text) (v .row .item .block) (linesIn (v .rest))
+            ≡ cond (not over && (eqb (v .row .item .block) (getD bs n 0) && startsBelow plain (rowLines (v .rest)))) (absorbStep plain (v .text) (s .reg .0) val (linesOf (drop f t)) (rowLines (v .back)) (ownersIn (v .back))) end
+        absorb-here = store-here ∙ store-absorb plain (getD bs n 0) (linesOf (drop f t)) (v .at .walks .past) (up-row .text) (s .reg .0) val parsed-here over (v .text) (v .row .item .block) (rowLines (v .rest))
 
         module _ (may : Bool) (j : may ≡ not over && (eqb (getD bs (k - 1) 0) (getD bs n 0) && eqb (getD fs (k - 1) 0) 1)) where
-          may-is : may ≡ not over && (eqb (v .row .item .block) (getD bs n 0) && startsBelow plain (linesIn (v .rest)))
+          may-is : may ≡ not over && (eqb (v .row .item .block) (getD bs n 0) && startsBelow plain (rowLines (v .rest)))
           may-is =
               j
               ∙ ap (λ (x : ℕ). not over && (eqb x (getD bs n 0) && eqb (getD fs (k - 1) 0) 1)) (ap (λ (x : ℕ). getD bs x 0) (sym index) ∙ told-here .block)
@@ -507,7 +507,7 @@ module _ {t : List ℕ} {n i f : ℕ} {bs fs owner₀ stack : List ℕ} {m : ℕ
 
           -- region, block or start of statement do not let it go
           pub may-end : may ≡ false → Peaked t n owner₀ owner stack cur h c m
-          may-end q = step-end (absorb-here ∙ ap (λ (x : Bool). cond x (absorbStep plain (v .text) (s .reg .0) val (linesOf (drop f t)) (linesIn (v .back)) (ownersIn (v .back))) end) (sym may-is ∙ q))
+          may-end q = step-end (absorb-here ∙ ap (λ (x : Bool). cond x (absorbStep plain (v .text) (s .reg .0) val (linesOf (drop f t)) (rowLines (v .back)) (ownersIn (v .back))) end) (sym may-is ∙ q))
 
           module _ (q : may ≡ true) (cc₀ ll bb : List ℕ) (e₁ : cc₀ ≡ part 0 c cur) (e₂ : ll ≡ part f (length t) t) (e₃ : bb ≡ part p i t) where
             cur-is : cc₀ ≡ v .text
@@ -520,10 +520,10 @@ module _ {t : List ℕ} {n i f : ℕ} {bs fs owner₀ stack : List ℕ} {m : ℕ
             step-is : step-here ≡ step-code
             step-is =
                 absorb-here
-                ∙ ap (λ (x : Bool). cond x (absorbStep plain (v .text) (s .reg .0) val (linesOf (drop f t)) (linesIn (v .back)) (ownersIn (v .back))) end) (sym may-is ∙ q)
-                ∙ ap (λ (x : List ℕ). absorbStep plain x (s .reg .0) val (linesOf (drop f t)) (linesIn (v .back)) (ownersIn (v .back))) (sym cur-is)
-                ∙ ap (λ (x : List ℕ). absorbStep plain cc₀ (s .reg .0) val (linesOf x) (linesIn (v .back)) (ownersIn (v .back))) (sym (e₂ ∙ rest-of t f))
-                ∙ ap (λ (x : List (List ℕ)). absorbStep plain cc₀ (s .reg .0) val (linesOf ll) x (ownersIn (v .back))) (sym (ap linesOf (e₃ ∙ v .at .between) ∙ lines-unlines (linesIn (v .back)) (v .at .clear)))
+                ∙ ap (λ (x : Bool). cond x (absorbStep plain (v .text) (s .reg .0) val (linesOf (drop f t)) (rowLines (v .back)) (ownersIn (v .back))) end) (sym may-is ∙ q)
+                ∙ ap (λ (x : List ℕ). absorbStep plain x (s .reg .0) val (linesOf (drop f t)) (rowLines (v .back)) (ownersIn (v .back))) (sym cur-is)
+                ∙ ap (λ (x : List ℕ). absorbStep plain cc₀ (s .reg .0) val (linesOf x) (rowLines (v .back)) (ownersIn (v .back))) (sym (e₂ ∙ rest-of t f))
+                ∙ ap (λ (x : List (List ℕ)). absorbStep plain cc₀ (s .reg .0) val (linesOf ll) x (ownersIn (v .back))) (sym (ap linesOf (e₃ ∙ v .at .between) ∙ lines-unlines (rowLines (v .back)) (v .at .clear)))
                 ∙ ap (absorbStep plain cc₀ (s .reg .0) val (linesOf ll) (linesOf bb)) (sym (v .at .behind))
 
             value-less : length val + 1 ≤ length (up-row .text)
@@ -550,7 +550,7 @@ module _ {t : List ℕ} {n i f : ℕ} {bs fs owner₀ stack : List ℕ} {m : ℕ
                 -- the line that was made is no longer than it and what went
                 new-less : length new ≤ c + length (up-row .text) + 1
                 new-less =
-                    let a = step-absorbs (leavesOf plain) (getD bs n 0) (λ u. readLater (leavesOf plain) u (linesOf (drop f t))) (v .row .act) (v .row .item) (v .d) over (v .text) (v .took) (v .lines) (linesIn (v .rest)) (out .next) step-new in
+                    let a = step-absorbs (leavesOf plain) (getD bs n 0) (λ u. readLater (leavesOf plain) u (linesOf (drop f t))) (v .row .act) (v .row .item) (v .d) over (v .text) (v .took) (v .lines) (rowLines (v .rest)) (out .next) step-new in
                     let y : length (a .t) ≡ length (up-row .text) = ap (λ (l : List (List ℕ)). length (getD l 0 [])) (sym (a .stands) ∙ up-row .is) in
                     omega (arith, put-length (v .text) (a .t) (a .reg) (a .value) (out .next) (valued (a .t) (a .reg) (a .value) (a .parses)) (put-is plain (v .text) (a .reg) (a .value) (out .next) (a .puts)), ap length new-is, v .at .sized)
 
@@ -561,7 +561,7 @@ module _ {t : List ℕ} {n i f : ℕ} {bs fs owner₀ stack : List ℕ} {m : ℕ
                 pub absorb-on : {cur′ : List ℕ} {c′ : ℕ} → Wrote cur 0 new cur′ c′ →
                     (q : ℕ) (z₁ : q ≡ lineStart t (p - 1)) (a : List ℕ) → a ≡ part q (p - 1) t → (hd : Bool) → hd ≡ isHeader a →
                     Climb t n i f bs fs owner₀ stack m cur₀ next₀ (set owner (k - 1) (n - k + 1)) cur′ next′ (k - 1) q b c′ (over || hd) (steps + 1)
-                unfolding linesIn ownersIn ownerOf act made
+                unfolding rowLines ownersIn ownerOf act made
                 absorb-on {cur′} {c′} w q z₁ a e₅ hd e₆ =
                     let tl = text-line q z₁ in
                     let sl = stack-line b z in
@@ -606,10 +606,10 @@ module _ {t : List ℕ} {n i f : ℕ} {bs fs owner₀ stack : List ℕ} {m : ℕ
 
 -- ---- the note of the row, and the lines below the one that the walk started from
 
-given-onto : (back rest : List Row) → given (onto back rest) ≡ given rest ++ linesIn back
-unfolding onto given linesIn
+given-onto : (back rest : List Row) → given (onto back rest) ≡ given rest ++ rowLines back
+unfolding onto given rowLines
 given-onto [] rest = sym (append-nil (given rest))
-given-onto (r ∷ back) rest = given-onto back (r ∷ rest) ∙ append-assoc (given rest) (r .item .line ∷ []) (linesIn back)
+given-onto (r ∷ back) rest = given-onto back (r ∷ rest) ∙ append-assoc (given rest) (r .item .line ∷ []) (rowLines back)
 
 module _ {t : List ℕ} {n i f : ℕ} {bs fs owner₀ stack : List ℕ} {m : ℕ} {cur₀ next₀ owner cur next : List ℕ} {k p h c : ℕ} {over : Bool} {steps : ℕ}
     (v : Turning t n i f bs fs owner₀ stack m cur₀ next₀ owner cur next k p h c over steps) where
@@ -620,15 +620,15 @@ module _ {t : List ℕ} {n i f : ℕ} {bs fs owner₀ stack : List ℕ} {m : ℕ
       let L = leavesOf plain in
       let later : ℕ → Bool = λ u. readLater L u (linesOf (drop f t)) in
       let x : List Row = v .row ∷ v .rest in
-      let a : given (v .rest) ++ (v .row .item .line ∷ linesIn (v .back)) ≡ take n (linesOf t) =
-      sym (append-assoc (given (v .rest)) (v .row .item .line ∷ []) (linesIn (v .back)))
-      ∙ ap (λ (y : List (List ℕ)). y ++ linesIn (v .back)) (sym (walk-given L (getD bs n 0) later (suc (v .left)) x (v .d) over (v .text) (v .took) (v .lines)))
+      let a : given (v .rest) ++ (v .row .item .line ∷ rowLines (v .back)) ≡ take n (linesOf t) =
+      sym (append-assoc (given (v .rest)) (v .row .item .line ∷ []) (rowLines (v .back)))
+      ∙ ap (λ (y : List (List ℕ)). y ++ rowLines (v .back)) (sym (walk-given L (getD bs n 0) later (suc (v .left)) x (v .d) over (v .text) (v .took) (v .lines)))
       ∙ sym (given-onto (v .back) (walk L (getD bs n 0) later (suc (v .left)) x (v .d) over (v .text) (v .took) (v .lines) .rows))
       ∙ ap (λ (y : Walked). given (y .rows)) (sym (v .at .walks .so-far))
       ∙ v .ground .given-is in
       let z : length (given (v .rest)) + 0 ≡ k - 1 = omega (arith, given-length (v .rest), v .at .many) in
-      sym (getD-append-add (given (v .rest)) (v .row .item .line ∷ linesIn (v .back)) 0 [])
-      ∙ ap (λ (y : ℕ). getD (given (v .rest) ++ (v .row .item .line ∷ linesIn (v .back))) y []) z
+      sym (getD-append-add (given (v .rest)) (v .row .item .line ∷ rowLines (v .back)) 0 [])
+      ∙ ap (λ (y : ℕ). getD (given (v .rest) ++ (v .row .item .line ∷ rowLines (v .back))) y []) z
       ∙ ap (λ (y : List (List ℕ)). getD y (k - 1) []) a
       ∙ getD-take n (linesOf t) (k - 1) [] (omega (arith, turn-in v, row-some v))
 

@@ -9,13 +9,13 @@ use lib.Dec.{eqb}
 use Rattle.lines.specs.Acts.{Act, keep, become, into, gone, act, apply}
 use Rattle.lines.proofs.ActLaws.{apply-append}
 use Rattle.calls.specs.Leaves.{Leaves, Parsed, store, other, Context, unclear, target, newed, operand}
-use Rattle.calls.specs.Calls.{Item, Row, Walked, Step, end, skip, absorb, stop, pass, tries, settleRow, linesIn, linesOn, has, climb, made, onStep, itemsOf, actsUp, readLater, putBy, breaksOne, storeStep, stepAt, walk, turn, rowsOf, rebuildCallsActs, rebuildCalls}
+use Rattle.calls.specs.Calls.{Item, Row, Walked, Step, end, skip, absorb, stop, pass, tries, settleRow, rowLines, linesOn, has, climb, made, onStep, itemsOf, actsUp, readLater, putBy, breaksOne, storeStep, stepAt, walk, turn, rowsOf, rebuildCallsActs, rebuildCalls}
 
 abbrev kept : Item → Row
 kept x = record { item = x; act = keep }
 
-lines-append : (rs ss : List Row) → linesIn (rs ++ ss) ≡ linesIn rs ++ linesIn ss
-unfolding linesIn
+lines-append : (rs ss : List Row) → rowLines (rs ++ ss) ≡ rowLines rs ++ rowLines ss
+unfolding rowLines
 lines-append [] ss = refl
 lines-append (r ∷ rs) ss = ap (λ (q : List (List ℕ)). r .item .line ∷ q) (lines-append rs ss)
 
@@ -43,7 +43,7 @@ module _ (L : Leaves) (b : ℕ) (later : ℕ → Bool) {above above′ : List (L
 pub walk-step : (L : Leaves) (b : ℕ) (later : ℕ → Bool) (left : ℕ) (r : Row) (rs : List Row) (d : ℕ) (over : Bool) (cur took : List ℕ) (lines : List (List ℕ))
     → walk L b later (suc left) (r ∷ rs) d over cur took lines
     ≡ onStep
-    (stepAt L b later (r .act) (r .item) d over cur took lines (linesIn rs))
+    (stepAt L b later (r .act) (r .item) d over cur took lines (rowLines rs))
     (stop took cur (r ∷ rs))
     (pass (r .item) (r .act) (walk L b later left rs (suc d) (over || L .header (r .item .line)) cur took lines))
     (λ next. pass (r .item) (into d) (walk L b later left rs (suc d) (over || L .header (r .item .line)) next (d ∷ took) (r .item .line ∷ lines)))
@@ -58,11 +58,11 @@ module _
     (h : Item)
     (e : L .header (h .line) ≡ true)
   where
-    starts-rows : (rs ss : List Row) → L .starts (linesIn (rs ++ kept h ∷ ss)) ≡ L .starts (linesIn (rs ++ kept h ∷ []))
-    unfolding linesIn
+    starts-rows : (rs ss : List Row) → L .starts (rowLines (rs ++ kept h ∷ ss)) ≡ L .starts (rowLines (rs ++ kept h ∷ []))
+    unfolding rowLines
     starts-rows rs ss =
         ap (L .starts) (lines-append rs (kept h ∷ ss))
-        ∙ starts-above (linesIn rs) (h .line) (linesIn ss) e
+        ∙ starts-above (rowLines rs) (h .line) (rowLines ss) e
         ∙ sym (ap (L .starts) (lines-append rs (kept h ∷ [])))
 
     -- a walk that starts below the header: whatever stands above the header, it leaves it, and it does the same
@@ -76,13 +76,13 @@ module _
     walk-cut b later zero rs d over cur took lines = record { act = made took cur; rows = rs; is = λ ss. refl }
     walk-cut b later (suc left) [] d over cur took lines = record { act = made took cur; rows = []; is = λ ss. rw (header-other (h .line) e) }
     walk-cut b later (suc left) (r ∷ rs) d over cur took lines =
-        go (stepAt L b later (r .act) (r .item) d over cur took lines (linesIn (rs ++ kept h ∷ [])))
+        go (stepAt L b later (r .act) (r .item) d over cur took lines (rowLines (rs ++ kept h ∷ [])))
         (λ ss. step-above L b later (starts-rows rs ss) (r .act) (r .item) d over cur took lines)
         (walk-cut b later left rs (suc d) (over || L .header (r .item .line)) cur took lines)
         (λ next. walk-cut b later left rs (suc d) (over || L .header (r .item .line)) next (d ∷ took) (r .item .line ∷ lines))
       where
         go : (s : Step)
-            → ((ss : List Row) → stepAt L b later (r .act) (r .item) d over cur took lines (linesIn (rs ++ kept h ∷ ss)) ≡ s)
+            → ((ss : List Row) → stepAt L b later (r .act) (r .item) d over cur took lines (rowLines (rs ++ kept h ∷ ss)) ≡ s)
             → WalkCut b later left rs (suc d) (over || L .header (r .item .line)) cur took lines
             → ((next : List ℕ) → WalkCut b later left rs (suc d) (over || L .header (r .item .line)) next (d ∷ took) (r .item .line ∷ lines))
             → WalkCut b later (suc left) (r ∷ rs) d over cur took lines
@@ -142,7 +142,7 @@ module _
     unfolding walk made
     over-walk b later zero rs d cur = refl
     over-walk b later (suc left) [] d cur = refl
-    over-walk b later (suc left) (r ∷ rs) d cur = walk-step L b later left r rs d true cur [] [] ∙ rw (over-step b later (r .act) (r .item) d cur [] (linesIn rs))
+    over-walk b later (suc left) (r ∷ rs) d cur = walk-step L b later left r rs d true cur [] [] ∙ rw (over-step b later (r .act) (r .item) d cur [] (rowLines rs))
 
     turn-head : (below : List (List ℕ)) (rs : List Row) → turn L h below rs ≡ kept h ∷ rs
     unfolding turn
@@ -211,12 +211,12 @@ module _ (L : Leaves) where
   walk-length b later zero rs d over cur took lines = refl
   walk-length b later (suc left) [] d over cur took lines = refl
   walk-length b later (suc left) (r ∷ rs) d over cur took lines =
-      go (stepAt L b later (r .act) (r .item) d over cur took lines (linesIn rs)) refl
+      go (stepAt L b later (r .act) (r .item) d over cur took lines (rowLines rs)) refl
       (walk-length b later left rs (suc d) (over || L .header (r .item .line)) cur took lines)
       (λ next. walk-length b later left rs (suc d) (over || L .header (r .item .line)) next (d ∷ took) (r .item .line ∷ lines))
     where
       go : (s : Step)
-          → stepAt L b later (r .act) (r .item) d over cur took lines (linesIn rs) ≡ s
+          → stepAt L b later (r .act) (r .item) d over cur took lines (rowLines rs) ≡ s
           → length (walk L b later left rs (suc d) (over || L .header (r .item .line)) cur took lines .rows) ≡ length rs
           → ((next : List ℕ) → length (walk L b later left rs (suc d) (over || L .header (r .item .line)) next (d ∷ took) (r .item .line ∷ lines) .rows) ≡ length rs)
           → length (walk L b later (suc left) (r ∷ rs) d over cur took lines .rows) ≡ suc (length rs)
@@ -274,8 +274,8 @@ abbrev reWalked : (ℕ → ℕ) → Walked → Walked
 reWalked f w = record { act = w .act; rows = reRows f (w .rows) }
 
 module _ (L : Leaves) (f : ℕ → ℕ) (one : (x y : ℕ) → eqb (f x) (f y) ≡ eqb x y) where
-  re-lines : (rs : List Row) → linesIn (reRows f rs) ≡ linesIn rs
-  unfolding linesIn reRows
+  re-lines : (rs : List Row) → rowLines (reRows f rs) ≡ rowLines rs
+  unfolding rowLines reRows
   re-lines [] = refl
   re-lines (r ∷ rs) = ap (λ (q : List (List ℕ)). r .item .line ∷ q) (re-lines rs)
 
@@ -310,30 +310,30 @@ module _ (L : Leaves) (f : ℕ → ℕ) (one : (x y : ℕ) → eqb (f x) (f y) �
   re-walk b later zero rs d over cur took lines = refl
   re-walk b later (suc left) [] d over cur took lines = refl
   re-walk b later (suc left) (r ∷ rs) d over cur took lines =
-      go (stepAt L b later (r .act) (r .item) d over cur took lines (linesIn rs)) refl
+      go (stepAt L b later (r .act) (r .item) d over cur took lines (rowLines rs)) refl
       (re-walk b later left rs (suc d) (over || L .header (r .item .line)) cur took lines)
       (λ next. re-walk b later left rs (suc d) (over || L .header (r .item .line)) next (d ∷ took) (r .item .line ∷ lines))
     where
       go : (s : Step)
-          → stepAt L b later (r .act) (r .item) d over cur took lines (linesIn rs) ≡ s
+          → stepAt L b later (r .act) (r .item) d over cur took lines (rowLines rs) ≡ s
           → walk L (f b) later left (reRows f rs) (suc d) (over || L .header (r .item .line)) cur took lines ≡ reWalked f (walk L b later left rs (suc d) (over || L .header (r .item .line)) cur took lines)
           → ((next : List ℕ) → walk L (f b) later left (reRows f rs) (suc d) (over || L .header (r .item .line)) next (d ∷ took) (r .item .line ∷ lines) ≡ reWalked f (walk L b later left rs (suc d) (over || L .header (r .item .line)) next (d ∷ took) (r .item .line ∷ lines)))
           → walk L (f b) later (suc left) (reRow f r ∷ reRows f rs) d over cur took lines ≡ reWalked f (walk L b later (suc left) (r ∷ rs) d over cur took lines)
       go s q c k =
           walk-step L (f b) later left (reRow f r) (reRows f rs) d over cur took lines
-          ∙ by s (ap (stepAt L (f b) later (r .act) (reItem f (r .item)) d over cur took lines) (re-lines rs) ∙ re-step b later (r .act) (r .item) d over cur took lines (linesIn rs) ∙ q) q
+          ∙ by s (ap (stepAt L (f b) later (r .act) (reItem f (r .item)) d over cur took lines) (re-lines rs) ∙ re-step b later (r .act) (r .item) d over cur took lines (rowLines rs) ∙ q) q
           ∙ sym (ap (reWalked f) (walk-step L b later left r rs d over cur took lines))
         where
           by : (s : Step)
-              → stepAt L (f b) later (r .act) (reItem f (r .item)) d over cur took lines (linesIn (reRows f rs)) ≡ s
-              → stepAt L b later (r .act) (r .item) d over cur took lines (linesIn rs) ≡ s
+              → stepAt L (f b) later (r .act) (reItem f (r .item)) d over cur took lines (rowLines (reRows f rs)) ≡ s
+              → stepAt L b later (r .act) (r .item) d over cur took lines (rowLines rs) ≡ s
               → onStep
-              (stepAt L (f b) later (r .act) (reItem f (r .item)) d over cur took lines (linesIn (reRows f rs)))
+              (stepAt L (f b) later (r .act) (reItem f (r .item)) d over cur took lines (rowLines (reRows f rs)))
               (stop took cur (reRow f r ∷ reRows f rs))
               (pass (reItem f (r .item)) (r .act) (walk L (f b) later left (reRows f rs) (suc d) (over || L .header (r .item .line)) cur took lines))
               (λ next. pass (reItem f (r .item)) (into d) (walk L (f b) later left (reRows f rs) (suc d) (over || L .header (r .item .line)) next (d ∷ took) (r .item .line ∷ lines)))
               ≡ reWalked f (onStep
-              (stepAt L b later (r .act) (r .item) d over cur took lines (linesIn rs))
+              (stepAt L b later (r .act) (r .item) d over cur took lines (rowLines rs))
               (stop took cur (r ∷ rs))
               (pass (r .item) (r .act) (walk L b later left rs (suc d) (over || L .header (r .item .line)) cur took lines))
               (λ next. pass (r .item) (into d) (walk L b later left rs (suc d) (over || L .header (r .item .line)) next (d ∷ took) (r .item .line ∷ lines))))

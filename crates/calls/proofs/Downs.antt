@@ -9,10 +9,10 @@ use lib.ListN.{length, getD, drop}
 use Rattle.lines.specs.Lf.{part, upTo, linesOf}
 use Rattle.place.specs.Region.{isHeader}
 use Rattle.records.specs.declared.LineRec.{LineRec}
-use Rattle.records.specs.Inner.Records.{noRec, recAt, recordsOf, Above, lastOf, windowAt, Told}
+use Rattle.records.specs.Inner.Records.{noRec, recAt, recordsOf, Above, lastRecord, windowAt, Told}
 use Rattle.records.proofs.Down.{Down, down-start, down-some, down-none, down-lt, down-here, down-on}
 use Rattle.records.proofs.Shown.{Shows, Has, told-long, shows-start, shows-asks, shows-filled}
-use Rattle.calls.specs.Inner.Tables.{Ready, Turned, Rebuilt}
+use Rattle.calls.specs.Inner.Tables.{Ready, TurnedLine, Rebuilt}
 use Rattle.calls.proofs.Turns.{Passes, passes-ready, passes-on, passes-end}
 
 -- the loop: the n-th line begins at `at`, and `above` is the region of the line above
@@ -44,7 +44,7 @@ module _ {t : List ℕ} {rs : List LineRec} {m : ℕ} {bs fs owner₀ stack₀ c
     pub lined-ready : {r : LineRec} → r ≡ getD rs n noRec → Ready t n (r .start) (r .end) bs fs owner stack o cur next
     lined-ready {r} g = subst (λ (x : LineRec). Ready t n (x .start) (x .end) bs fs owner stack o cur next) (sym (g ∙ down-here (h .down) inside to refl)) (passes-ready (h .passes) inside to refl)
 
-    pub lined-on : {owner′ stack′ cur′ next′ : List ℕ} {o′ : ℕ} → Turned t n owner owner′ stack′ o o′ →
+    pub lined-on : {owner′ stack′ cur′ next′ : List ℕ} {o′ : ℕ} → TurnedLine t n owner owner′ stack′ o o′ →
         length owner′ ≡ length owner → length stack′ ≡ length stack → length cur′ ≡ length cur → length next′ ≡ length next →
         Lined t rs m bs fs owner₀ stack₀ cur₀ next₀ owner′ stack′ cur′ next′ (n + 1) o′
     lined-on w a b c d = record {
@@ -72,7 +72,7 @@ viewed-start {d = d} p h w = record { lined = lined-start p h; some = w; same = 
 module _ {t es : List ℕ} {m : ℕ} {bs fs owner₀ stack₀ cur₀ next₀ owner stack cur next : List ℕ} {d₀ d : List LineRec} {past n o : ℕ}
     (h : Viewed t m bs fs owner₀ stack₀ cur₀ next₀ owner stack cur next d₀ d past n o) (k : Told t es bs m) (l : n < m) where
   -- what `refill` asks for
-  pub viewed-asks : ((i : ℕ) → getD es i 0 < 2 ^ 64) → ((n ≤ m) × ((m ≤ length es) × ((m ≤ length bs) × (0 < length d)))) × (past ≤ n → Above past (lastOf d))
+  pub viewed-asks : ((i : ℕ) → getD es i 0 < 2 ^ 64) → ((n ≤ m) × ((m ≤ length es) × ((m ≤ length bs) × (0 < length d)))) × (past ≤ n → Above past (lastRecord d))
   viewed-asks g = ((omega arith, (told-long k .0, (told-long k .1, h .some))), λ q. shows-asks k (h .shows) (h .some) (omega (arith, q, l)) g)
 
   module _ {past′ : ℕ} {d′ : List LineRec} (p : past′ ≡ cond (ltb n past) past (past + length d)) (q : d′ ≡ cond (ltb n past) d (windowAt es bs m past d)) where
@@ -90,7 +90,7 @@ module _ {t es : List ℕ} {m : ℕ} {bs fs owner₀ stack₀ cur₀ next₀ own
       pub viewed-ready : Ready t n (r .start) (r .end) bs fs owner stack o cur next
       viewed-ready = lined-ready (h .lined) l here
 
-      pub viewed-on : {owner′ stack′ cur′ next′ : List ℕ} {o′ : ℕ} → Turned t n owner owner′ stack′ o o′ →
+      pub viewed-on : {owner′ stack′ cur′ next′ : List ℕ} {o′ : ℕ} → TurnedLine t n owner owner′ stack′ o o′ →
           length owner′ ≡ length owner → length stack′ ≡ length stack → length cur′ ≡ length cur → length next′ ≡ length next →
           Viewed t m bs fs owner₀ stack₀ cur₀ next₀ owner′ stack′ cur′ next′ d₀ d′ past′ (n + 1) o′
       viewed-on w a b c e =

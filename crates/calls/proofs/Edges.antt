@@ -11,7 +11,7 @@ use Rattle.lines.specs.Acts.{Act, keep, become, into, gone, act, apply}
 use Rattle.lines.proofs.ActLaws.{apply-append}
 use Rattle.lines.proofs.Tests.{no}
 use Rattle.calls.specs.Leaves.{Leaves}
-use Rattle.calls.specs.Calls.{Item, Row, Walked, Step, end, skip, absorb, stop, pass, tries, settleRow, linesIn, linesOn, has, climb, made, onStep, itemsOf, actsUp, readLater, stepAt, walk, turn, rowsOf, rebuildCallsActs, rebuildCalls}
+use Rattle.calls.specs.Calls.{Item, Row, Walked, Step, end, skip, absorb, stop, pass, tries, settleRow, rowLines, linesOn, has, climb, made, onStep, itemsOf, actsUp, readLater, stepAt, walk, turn, rowsOf, rebuildCallsActs, rebuildCalls}
 use Rattle.calls.specs.Inner.Tables.{ownerOf}
 use Rattle.calls.proofs.Cut.{walk-step, acts-more, acts-length}
 
@@ -51,12 +51,12 @@ module _ (L : Leaves) where
   walk-given b later zero rs d over cur took lines = refl
   walk-given b later (suc left) [] d over cur took lines = refl
   walk-given b later (suc left) (r ∷ rs) d over cur took lines =
-      go (stepAt L b later (r .act) (r .item) d over cur took lines (linesIn rs)) refl
+      go (stepAt L b later (r .act) (r .item) d over cur took lines (rowLines rs)) refl
       (walk-given b later left rs (suc d) (over || L .header (r .item .line)) cur took lines)
       (λ next. walk-given b later left rs (suc d) (over || L .header (r .item .line)) next (d ∷ took) (r .item .line ∷ lines))
     where
       go : (s : Step)
-          → stepAt L b later (r .act) (r .item) d over cur took lines (linesIn rs) ≡ s
+          → stepAt L b later (r .act) (r .item) d over cur took lines (rowLines rs) ≡ s
           → given (walk L b later left rs (suc d) (over || L .header (r .item .line)) cur took lines .rows) ≡ given rs
           → ((next : List ℕ) → given (walk L b later left rs (suc d) (over || L .header (r .item .line)) next (d ∷ took) (r .item .line ∷ lines) .rows) ≡ given rs)
           → given (walk L b later (suc left) (r ∷ rs) d over cur took lines .rows) ≡ given rs ++ (r .item .line ∷ [])
@@ -189,10 +189,10 @@ module _ {L : Leaves} {b : ℕ} {later : ℕ → Bool} {whole : Walked} {left : 
         past = over-row r n p q (h .past);
       }
     where
-      skips : r .act ≡ into n → has (d - n) took ≡ true → stepAt L b later (r .act) (r .item) d over cur took lines (linesIn rs) ≡ skip
-      skips p q = ap (λ (a : Act). stepAt L b later a (r .item) d over cur took lines (linesIn rs)) p ∙ into-skips L b later n (r .item) d over cur took lines (linesIn rs) q
+      skips : r .act ≡ into n → has (d - n) took ≡ true → stepAt L b later (r .act) (r .item) d over cur took lines (rowLines rs) ≡ skip
+      skips p q = ap (λ (a : Act). stepAt L b later a (r .item) d over cur took lines (rowLines rs)) p ∙ into-skips L b later n (r .item) d over cur took lines (rowLines rs) q
 
-  pub edge-absorb : (next : List ℕ) → stepAt L b later (r .act) (r .item) d over cur took lines (linesIn rs) ≡ absorb next
+  pub edge-absorb : (next : List ℕ) → stepAt L b later (r .act) (r .item) d over cur took lines (rowLines rs) ≡ absorb next
       → WalkInv L b later whole left rs (record { item = r .item; act = into d } ∷ back) (suc d) (over || L .header (r .item .line)) next (d ∷ took) (r .item .line ∷ lines)
   unfolding onStep onto
   edge-absorb next q =
@@ -201,7 +201,7 @@ module _ {L : Leaves} {b : ℕ} {later : ℕ → Bool} {whole : Walked} {left : 
         past = took-row (r .item) (h .past);
       }
 
-  pub edge-end : stepAt L b later (r .act) (r .item) d over cur took lines (linesIn rs) ≡ end
+  pub edge-end : stepAt L b later (r .act) (r .item) d over cur took lines (rowLines rs) ≡ end
       → whole ≡ record { act = made took cur; rows = onto back (r ∷ rs) }
   unfolding onStep
   edge-end q = h .so-far ∙ ap (passed back) (walk-step L b later left r rs d over cur took lines) ∙ rw q

@@ -9,7 +9,7 @@ use lib.Dec.{eqb}
 use lib.ListN.{length}
 use Rattle.lines.specs.Acts.{Act, keep, become, into, gone, act, apply}
 use Rattle.calls.specs.Leaves.{Leaves, Parsed, store, other, Context, unclear, target, newed, operand}
-use Rattle.calls.specs.Calls.{linesIn, linesOn, has, made, onStep, storesIn, orEnd, itemsOf, actsUp, readLater, breaksOne, putBy, storeStep, stepAt, walk, turn, rowsOf, rebuildCallsActs, rebuildCalls}
+use Rattle.calls.specs.Calls.{rowLines, linesOn, has, made, onStep, storesIn, orEnd, itemsOf, actsUp, readLater, breaksOne, putBy, storeStep, stepAt, walk, turn, rowsOf, rebuildCallsActs, rebuildCalls}
 
 -- how often a word stands in a line
 unfoldable pub count : ℕ → List ℕ → ℕ

@@ -15,7 +15,7 @@ use Rattle.origins.specs.Inner.Codes.{moveOf, movesOf}
 use Rattle.origins.proofs.FateLaws.{fates-length}
 use Rattle.origins.proofs.CodeLaws as codes
 use Rattle.calls.specs.Leaves.{Leaves}
-use Rattle.calls.specs.Calls.{Item, Row, Step, end, skip, absorb, linesIn, linesOn, climb, made, tries, itemsOf, actsUp, readLater, stepAt, walk, turn, rowsOf, rebuildCallsActs}
+use Rattle.calls.specs.Calls.{Item, Row, Step, end, skip, absorb, rowLines, linesOn, climb, made, tries, itemsOf, actsUp, readLater, stepAt, walk, turn, rowsOf, rebuildCallsActs}
 use Rattle.calls.specs.Inner.Tables.{ownerOf, ownersOf}
 use Rattle.calls.proofs.Cut.{walk-step}
 use Rattle.calls.proofs.Edges.{items-on}
@@ -168,12 +168,12 @@ module _ (L : Leaves) where
   walk-landed b later (suc left) [] d over cur took lines below under c h = (made-lands (L .call) took cur under, h)
   walk-landed b later (suc left) (r ∷ rs) d over cur took lines below under c h =
       let down = and-right (lands (L .call) (r .act) below) (landed (r .item .line ∷ below) rs) h in
-      go (stepAt L b later (r .act) (r .item) (suc d) over cur took lines (linesIn rs)) refl
+      go (stepAt L b later (r .act) (r .item) (suc d) over cur took lines (rowLines rs)) refl
       (walk-landed b later left rs (suc d) (over || L .header (r .item .line)) cur took lines (r .item .line ∷ below) under c down)
       (λ next. walk-landed b later left rs (suc d) (over || L .header (r .item .line)) next (suc d ∷ took) (r .item .line ∷ lines) (r .item .line ∷ below) under c down)
     where
       go : (s : Step)
-          → stepAt L b later (r .act) (r .item) (suc d) over cur took lines (linesIn rs) ≡ s
+          → stepAt L b later (r .act) (r .item) (suc d) over cur took lines (rowLines rs) ≡ s
           → (lands (L .call) (walk L b later left rs (suc (suc d)) (over || L .header (r .item .line)) cur took lines .act) under ≡ true)
           × (landed (r .item .line ∷ below) (walk L b later left rs (suc (suc d)) (over || L .header (r .item .line)) cur took lines .rows) ≡ true)
           → ((next : List ℕ) → (lands (L .call) (walk L b later left rs (suc (suc d)) (over || L .header (r .item .line)) next (suc d ∷ took) (r .item .line ∷ lines) .act) under ≡ true)
@@ -200,24 +200,24 @@ module _ (L : Leaves) where
   rows-landed (x ∷ xs) rs h = rows-landed xs (turn L x (linesOn xs) rs) (turn-landed x (linesOn xs) rs h)
 
   up-sound : (rs : List Row) (more : List Act) (below : List (List ℕ)) → landed below rs ≡ true → sound (L .call) more below ≡ true
-      → sound (L .call) (actsUp rs more) (upon (linesIn rs) below) ≡ true
-  unfolding actsUp landed sound upon linesIn
+      → sound (L .call) (actsUp rs more) (upon (rowLines rs) below) ≡ true
+  unfolding actsUp landed sound upon rowLines
   up-sound [] more below h k = k
   up-sound (r ∷ rs) more below h k =
       up-sound rs (r .act ∷ more) (r .item .line ∷ below) (and-right (lands (L .call) (r .act) below) (landed (r .item .line ∷ below) rs) h)
       (and-both (and-left (lands (L .call) (r .act) below) (landed (r .item .line ∷ below) rs) h) k)
 
-  rows-lines : (xs : List Item) (rs : List Row) → upon (linesIn (rowsOf L xs rs)) [] ≡ upon (linesIn rs) (linesOn xs)
+  rows-lines : (xs : List Item) (rs : List Row) → upon (rowLines (rowsOf L xs rs)) [] ≡ upon (rowLines rs) (linesOn xs)
   unfolding rowsOf linesOn upon
   rows-lines [] rs = refl
   rows-lines (x ∷ xs) rs = rows-lines xs (turn L x (linesOn xs) rs) ∙ ap (λ (ls : List (List ℕ)). upon ls (linesOn xs)) (turn-lines L x (linesOn xs) rs)
 
   -- every line that is taken in has so many lines below it as its act says, and the last of these is a call line; none is taken into itself, and none is gone
   pub calls-sound : (ls : List (List ℕ)) → sound (L .call) (rebuildCallsActs L ls) ls ≡ true
-  unfolding rebuildCallsActs landed sound upon linesIn
+  unfolding rebuildCallsActs landed sound upon rowLines
   calls-sound ls =
       let xs : List Item = itemsOf ls (L .blocks ls) in
-      let same : upon (linesIn (rowsOf L xs [])) [] ≡ ls = rows-lines xs [] ∙ items-on L ls (L .blocks ls) in
+      let same : upon (rowLines (rowsOf L xs [])) [] ≡ ls = rows-lines xs [] ∙ items-on L ls (L .blocks ls) in
       sym (ap (sound (L .call) (actsUp (rowsOf L xs []) [])) same) ∙ up-sound (rowsOf L xs []) [] [] (rows-landed xs [] refl) refl
 
   -- and each line stands, or is taken, line by line, into one that does

@@ -8,7 +8,7 @@ use borrow.Author.Tests.{ne-eqb}
 use lib.Dec.{eqb}
 use Rattle.lines.specs.Acts.{Act, keep, become, into, gone, act}
 use Rattle.calls.specs.Leaves.{Leaves}
-use Rattle.calls.specs.Calls.{Item, Row, Walked, Step, end, skip, absorb, stop, pass, tries, settleRow, linesIn, linesOn, has, climb, made, onStep, readLater, stepAt, walk, turn, rowsOf}
+use Rattle.calls.specs.Calls.{Item, Row, Walked, Step, end, skip, absorb, stop, pass, tries, settleRow, rowLines, linesOn, has, climb, made, onStep, readLater, stepAt, walk, turn, rowsOf}
 use Rattle.calls.proofs.Cut.{walk-step}
 use Rattle.calls.specs.Inner.Tables.{ownerOf}
 
@@ -28,7 +28,7 @@ module _ (L : Leaves) where
     walkLi (suc left) [] d over cur took lines = stop took cur []
     walkLi (suc left) (r ∷ rs) d over cur took lines =
         onStep
-        (stepLi (r .act) (r .item) d over cur took lines (linesIn rs))
+        (stepLi (r .act) (r .item) d over cur took lines (rowLines rs))
         (stop took cur (r ∷ rs))
         (pass (r .item) (r .act) (walkLi left rs (suc d) (over || L .header (r .item .line)) cur took lines))
         (λ next. pass (r .item) (into d) (walkLi left rs (suc d) (over || L .header (r .item .line)) next (d ∷ took) (r .item .line ∷ lines)))
@@ -82,9 +82,9 @@ module _ (L : Leaves) where
   walk-li b later (suc left) [] d over cur took lines q = refl
   walk-li b later (suc left) (r ∷ rs) d over cur took lines q =
       let on = over || L .header (r .item .line) in
-      ap (λ (s : Step). onStep s (stop took cur (r ∷ rs)) (pass (r .item) (r .act) (walkLi L b later left rs (suc d) on cur took lines)) (λ next. pass (r .item) (into d) (walkLi L b later left rs (suc d) on next (d ∷ took) (r .item .line ∷ lines)))) (step-li b later (r .act) (r .item) d over cur took lines (linesIn rs) (q .0))
-      ∙ ap (λ (u : Walked). onStep (stepAt L b later (r .act) (r .item) d over cur took lines (linesIn rs)) (stop took cur (r ∷ rs)) (pass (r .item) (r .act) u) (λ next. pass (r .item) (into d) (walkLi L b later left rs (suc d) on next (d ∷ took) (r .item .line ∷ lines)))) (walk-li b later left rs (suc d) on cur took lines (q .1))
-      ∙ ap (λ (f : List ℕ → Walked). onStep (stepAt L b later (r .act) (r .item) d over cur took lines (linesIn rs)) (stop took cur (r ∷ rs)) (pass (r .item) (r .act) (walk L b later left rs (suc d) on cur took lines)) (λ next. pass (r .item) (into d) (f next))) (fun-ext (λ next. walk-li b later left rs (suc d) on next (d ∷ took) (r .item .line ∷ lines) (q .1)))
+      ap (λ (s : Step). onStep s (stop took cur (r ∷ rs)) (pass (r .item) (r .act) (walkLi L b later left rs (suc d) on cur took lines)) (λ next. pass (r .item) (into d) (walkLi L b later left rs (suc d) on next (d ∷ took) (r .item .line ∷ lines)))) (step-li b later (r .act) (r .item) d over cur took lines (rowLines rs) (q .0))
+      ∙ ap (λ (u : Walked). onStep (stepAt L b later (r .act) (r .item) d over cur took lines (rowLines rs)) (stop took cur (r ∷ rs)) (pass (r .item) (r .act) u) (λ next. pass (r .item) (into d) (walkLi L b later left rs (suc d) on next (d ∷ took) (r .item .line ∷ lines)))) (walk-li b later left rs (suc d) on cur took lines (q .1))
+      ∙ ap (λ (f : List ℕ → Walked). onStep (stepAt L b later (r .act) (r .item) d over cur took lines (rowLines rs)) (stop took cur (r ∷ rs)) (pass (r .item) (r .act) (walk L b later left rs (suc d) on cur took lines)) (λ next. pass (r .item) (into d) (f next))) (fun-ext (λ next. walk-li b later left rs (suc d) on next (d ∷ took) (r .item .line ∷ lines) (q .1)))
 
   pub walk-owned : (b : ℕ) (later : ℕ → Bool) (left : ℕ) (rs : List Row) (d : ℕ) (over : Bool) (cur took : List ℕ) (lines : List (List ℕ)) → owned d rs
       → (ownerOf (walk L b later left rs d over cur took lines .act) ≡ 0) × owned (suc d) (walk L b later left rs d over cur took lines .rows)
@@ -92,12 +92,12 @@ module _ (L : Leaves) where
   walk-owned b later zero rs d over cur took lines q = (made-owner took cur, owned-more d rs q)
   walk-owned b later (suc left) [] d over cur took lines q = (made-owner took cur, q)
   walk-owned b later (suc left) (r ∷ rs) d over cur took lines q =
-      go (stepAt L b later (r .act) (r .item) d over cur took lines (linesIn rs)) refl
+      go (stepAt L b later (r .act) (r .item) d over cur took lines (rowLines rs)) refl
       (walk-owned b later left rs (suc d) (over || L .header (r .item .line)) cur took lines (q .1))
       (λ next. walk-owned b later left rs (suc d) (over || L .header (r .item .line)) next (d ∷ took) (r .item .line ∷ lines) (q .1))
     where
       go : (s : Step)
-          → stepAt L b later (r .act) (r .item) d over cur took lines (linesIn rs) ≡ s
+          → stepAt L b later (r .act) (r .item) d over cur took lines (rowLines rs) ≡ s
           → (ownerOf (walk L b later left rs (suc d) (over || L .header (r .item .line)) cur took lines .act) ≡ 0) × owned (suc (suc d)) (walk L b later left rs (suc d) (over || L .header (r .item .line)) cur took lines .rows)
           → ((next : List ℕ) → (ownerOf (walk L b later left rs (suc d) (over || L .header (r .item .line)) next (d ∷ took) (r .item .line ∷ lines) .act) ≡ 0) × owned (suc (suc d)) (walk L b later left rs (suc d) (over || L .header (r .item .line)) next (d ∷ took) (r .item .line ∷ lines) .rows))
           → (ownerOf (walk L b later (suc left) (r ∷ rs) d over cur took lines .act) ≡ 0) × owned (suc d) (walk L b later (suc left) (r ∷ rs) d over cur took lines .rows)

@@ -10,7 +10,7 @@ use Rattle.lines.specs.Lf.{all}
 use Rattle.lines.specs.Acts.{Act, keep, become, into, gone}
 use Rattle.lines.proofs.Tests.{and-left, and-right, and-both}
 use Rattle.calls.specs.Leaves.{Leaves}
-use Rattle.calls.specs.Calls.{Item, Row, Walked, Step, end, skip, absorb, linesIn, linesOn, climb, made, tries, itemsOf, actsUp, readLater, stepAt, walk, turn, rowsOf, rebuildCallsActs}
+use Rattle.calls.specs.Calls.{Item, Row, Walked, Step, end, skip, absorb, rowLines, linesOn, climb, made, tries, itemsOf, actsUp, readLater, stepAt, walk, turn, rowsOf, rebuildCallsActs}
 use Rattle.calls.proofs.Cut.{walk-step}
 
 -- a line is not gone, and does not go into itself
@@ -48,7 +48,7 @@ module _ (L : Leaves) where
   walk-says b later zero rs d over cur took lines g h = and-both (made-says took cur) h
   walk-says b later (suc left) [] d over cur took lines g h = and-both (made-says took cur) refl
   walk-says b later (suc left) (r ∷ rs) d over cur took lines g h =
-      go (stepAt L b later (r .act) (r .item) d over cur took lines (linesIn rs)) refl
+      go (stepAt L b later (r .act) (r .item) d over cur took lines (rowLines rs)) refl
       (walk-says b later left rs (suc d) (over || L .header (r .item .line)) cur took lines (omega arith) (and-right (saysRow r) (all saysRow rs) h))
       (λ next. walk-says b later left rs (suc d) (over || L .header (r .item .line)) next (d ∷ took) (r .item .line ∷ lines) (omega arith) (and-right (saysRow r) (all saysRow rs) h))
     where
@@ -56,7 +56,7 @@ module _ (L : Leaves) where
       put a w p q = and-both (and-left (says (w .act)) (all saysRow (w .rows)) q) (and-both p (and-right (says (w .act)) (all saysRow (w .rows)) q))
 
       go : (s : Step)
-          → stepAt L b later (r .act) (r .item) d over cur took lines (linesIn rs) ≡ s
+          → stepAt L b later (r .act) (r .item) d over cur took lines (rowLines rs) ≡ s
           → saysWalked (walk L b later left rs (suc d) (over || L .header (r .item .line)) cur took lines) ≡ true
           → ((next : List ℕ) → saysWalked (walk L b later left rs (suc d) (over || L .header (r .item .line)) next (d ∷ took) (r .item .line ∷ lines)) ≡ true)
           → saysWalked (walk L b later (suc left) (r ∷ rs) d over cur took lines) ≡ true

@@ -10,7 +10,7 @@ use Rattle.lines.specs.Lf.{part, unlines}
 use Rattle.lines.specs.Inner.Lf.{lineStart, lacks}
 use Rattle.lines.specs.Acts.{Act, act}
 use Rattle.lines.proofs.ActLaws.{unlines-append}
-use Rattle.calls.specs.Calls.{Row, linesIn, actsUp}
+use Rattle.calls.specs.Calls.{Row, rowLines, actsUp}
 use Rattle.calls.specs.Inner.Tables.{ownerOf, ownersOf}
 use Rattle.calls.proofs.Cut.{acts-more, acts-length}
 use Rattle.calls.proofs.Edges.{given, ownerBack}
@@ -121,12 +121,12 @@ reverse-snoc xs x = go xs []
     go [] ys = refl
     go (z ∷ xs) ys = go xs (z ∷ ys)
 
-pub lines-given : (rs : List Row) → linesIn rs ≡ reverse (given rs)
-unfolding linesIn given
+pub lines-given : (rs : List Row) → rowLines rs ≡ reverse (given rs)
+unfolding rowLines given
 lines-given [] = refl
 lines-given (r ∷ rs) = ap (λ (l : List (List ℕ)). r .item .line ∷ l) (lines-given rs) ∙ sym (reverse-snoc (given rs) (r .item .line))
 
-pub lines-many : (rs : List Row) → length (linesIn rs) ≡ length rs
-unfolding linesIn
+pub lines-many : (rs : List Row) → length (rowLines rs) ≡ length rs
+unfolding rowLines
 lines-many [] = refl
 lines-many (r ∷ rs) = ap suc (lines-many rs)

@@ -39,7 +39,7 @@ use Rattle.lines.proofs.OutLaws.{wrote-part}
 use Rattle.calls.specs.Leaves.{newed, operand}
 use Rattle.calls.specs.LeavesOf.{parsedBy, parsedOf, contextOf, isCall, isControlLine, leavesOf}
 use Rattle.calls.specs.Calls.{Step, end, absorb, orEnd, putBy, storesIn, readLater}
-use Rattle.calls.specs.Inner.Steps.{breaksDown, wrapped, absorbStep, PutAs, ends, puts}
+use Rattle.calls.specs.Inner.Steps.{breaksDown, wrappedCall, absorbStep, PutAs, ends, puts}
 use Rattle.calls.specs.declared.Made.{Made}
 use Rattle.calls.specs.declared.Made.the-variants as made
 
@@ -185,7 +185,7 @@ pub front-is : {d xs d′ t : List ℕ} {n : ℕ} → Wrote d 0 xs d′ n → t 
 front-is {d′ = d′} {n = n} w e = let z : n - 0 ≡ n = omega arith in e ∙ ap (λ (k : ℕ). take k d′) z ∙ wrote-part w
 
 -- a value in parentheses is glued to nothing
-wrapped-free : (before v after : List ℕ) → glueLeft before (wrapped v) || glueRight (wrapped v) after ≡ false
+wrapped-free : (before v after : List ℕ) → glueLeft before (wrappedCall v) || glueRight (wrappedCall v) after ≡ false
 unfolding glueLeft glueRight prefixed
 wrapped-free before v after = go (getD (40 ∷ v ++ 41 ∷ []) (length (40 ∷ v ++ 41 ∷ []) - 1) 0) last
   where
@@ -199,17 +199,17 @@ wrapped-free before v after = go (getD (40 ∷ v ++ 41 ∷ []) (length (40 ∷ v
 
 -- a line with a value in parentheses in the place of a hit, by its parts
 module _ (from to : ℕ) (l v before after : List ℕ) (p : before ≡ part 0 from l) (q : after ≡ part to (length l) l) where
-  wrapped-bare : glued before (wrapped v) after ≡ wrapped v
-  wrapped-bare = glued-bare before (wrapped v) after (wrapped-free before v after)
+  wrapped-bare : glued before (wrappedCall v) after ≡ wrappedCall v
+  wrapped-bare = glued-bare before (wrappedCall v) after (wrapped-free before v after)
 
-  pub wrapped-is : (((before ++ (40 ∷ [])) ++ v) ++ (41 ∷ [])) ++ after ≡ replacedAt from to l (wrapped v)
+  pub wrapped-is : (((before ++ (40 ∷ [])) ++ v) ++ (41 ∷ [])) ++ after ≡ replacedAt from to l (wrappedCall v)
   wrapped-is =
       ap (λ (t : List ℕ). t ++ after)
       (ap (λ (t : List ℕ). t ++ (41 ∷ [])) (append-assoc before (40 ∷ []) v) ∙ append-assoc before (40 ∷ v) (41 ∷ []) ∙ ap (λ (t : List ℕ). before ++ t) (sym wrapped-bare))
-      ∙ replaced-is from to l (wrapped v) before after p q
+      ∙ replaced-is from to l (wrappedCall v) before after p q
 
-  pub wrapped-long : length before + 2 + length v + length after ≡ length (replacedAt from to l (wrapped v))
-  wrapped-long = omega (arith, replaced-length from to l (wrapped v) before after p q, ap length wrapped-bare, length-append (40 ∷ v) (41 ∷ []))
+  pub wrapped-long : length before + 2 + length v + length after ≡ length (replacedAt from to l (wrappedCall v))
+  wrapped-long = omega (arith, replaced-length from to l (wrappedCall v) before after p q, ap length wrapped-bare, length-append (40 ∷ v) (41 ∷ []))
 
 module _ (R : Reading) (cur : List ℕ) (v : ℕ) (value : List ℕ) where
   pub put-none : regHit v cur ≡ hit.Not → putBy (leavesOf R) (contextOf cur v) cur v value ≡ end

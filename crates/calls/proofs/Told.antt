@@ -26,7 +26,7 @@ use Rattle.place.proofs.Starts.{starts-at, length-starts}
 use Rattle.reading.specs.Reading.{plain}
 use Rattle.calls.specs.Leaves.{Leaves, Parsed, store, other}
 use Rattle.calls.specs.LeavesOf.{parsedOf, contextOf, startsBelow, blocksBy, leavesOf}
-use Rattle.calls.specs.Calls.{Item, Row, Walked, Step, end, skip, absorb, tries, linesIn, linesOn, has, climb, made, itemsOf, actsUp, readLater, breaksOne, putBy, storeStep, stepAt, walk, turn, rowsOf}
+use Rattle.calls.specs.Calls.{Item, Row, Walked, Step, end, skip, absorb, tries, rowLines, linesOn, has, climb, made, itemsOf, actsUp, readLater, breaksOne, putBy, storeStep, stepAt, walk, turn, rowsOf}
 use Rattle.calls.specs.Inner.Tables.{ownerOf, rowsTo, walkFrom, itemsIn, rowsAt, walkAt, lineAt, Placed}
 use Rattle.calls.proofs.Cut.{walk-step}
 use Rattle.calls.proofs.Edges.{given, given-length, walk-given, turn-given, items-on}
@@ -135,16 +135,16 @@ pub record RowTold (bs fs : List ℕ) (x : Item) (above : List (List ℕ)) : Typ
 
 unfoldable pub Told : List ℕ → List ℕ → List Row → Type 0
 Told bs fs [] = Unit
-Told bs fs (r ∷ rs) = RowTold bs fs (r .item) (linesIn rs) × (goodAct (r .act) × Told bs fs rs)
+Told bs fs (r ∷ rs) = RowTold bs fs (r .item) (rowLines rs) × (goodAct (r .act) × Told bs fs rs)
 
 module _ (L : Leaves) where
   pub walk-lines : (b : ℕ) (later : ℕ → Bool) (left : ℕ) (rs : List Row) (d : ℕ) (over : Bool) (cur took : List ℕ) (lines : List (List ℕ))
-      → linesIn (walk L b later left rs d over cur took lines .rows) ≡ linesIn rs
+      → rowLines (walk L b later left rs d over cur took lines .rows) ≡ rowLines rs
   walk-lines b later left rs d over cur took lines =
       lines-given (walk L b later left rs d over cur took lines .rows) ∙ ap reverse (walk-given L b later left rs d over cur took lines) ∙ sym (lines-given rs)
 
-  pub turn-lines : (x : Item) (below : List (List ℕ)) (rs : List Row) → linesIn (turn L x below rs) ≡ x .line ∷ linesIn rs
-  unfolding linesIn given
+  pub turn-lines : (x : Item) (below : List (List ℕ)) (rs : List Row) → rowLines (turn L x below rs) ≡ x .line ∷ rowLines rs
+  unfolding rowLines given
   turn-lines x below rs =
       lines-given (turn L x below rs) ∙ ap reverse (turn-given L x below rs) ∙ sym (lines-given (record { item = x; act = keep } ∷ rs))
 
@@ -156,12 +156,12 @@ module _ (bs fs : List ℕ) where
   walk-told b later zero rs d over cur took lines h k u = (made-good took cur k, h)
   walk-told b later (suc left) [] d over cur took lines h k u = (made-good took cur k, h)
   walk-told b later (suc left) (r ∷ rs) d over cur took lines h k u =
-      go (stepAt (leavesOf plain) b later (r .act) (r .item) d over cur took lines (linesIn rs)) refl
+      go (stepAt (leavesOf plain) b later (r .act) (r .item) d over cur took lines (rowLines rs)) refl
       (walk-told b later left rs (suc d) (over || leavesOf plain .header (r .item .line)) cur took lines (h .1 .1) k (omega arith))
       (λ next q. walk-told b later left rs (suc d) (over || leavesOf plain .header (r .item .line)) next (d ∷ took) (r .item .line ∷ lines) (h .1 .1) q (omega arith))
     where
       go : (s : Step)
-          → stepAt (leavesOf plain) b later (r .act) (r .item) d over cur took lines (linesIn rs) ≡ s
+          → stepAt (leavesOf plain) b later (r .act) (r .item) d over cur took lines (rowLines rs) ≡ s
           → goodAct (walk (leavesOf plain) b later left rs (suc d) (over || leavesOf plain .header (r .item .line)) cur took lines .act) × Told bs fs (walk (leavesOf plain) b later left rs (suc d) (over || leavesOf plain .header (r .item .line)) cur took lines .rows)
           → ((next : List ℕ) → lacks 10 next ≡ true → goodAct (walk (leavesOf plain) b later left rs (suc d) (over || leavesOf plain .header (r .item .line)) next (d ∷ took) (r .item .line ∷ lines) .act) × Told bs fs (walk (leavesOf plain) b later left rs (suc d) (over || leavesOf plain .header (r .item .line)) next (d ∷ took) (r .item .line ∷ lines) .rows))
           → goodAct (walk (leavesOf plain) b later (suc left) (r ∷ rs) d over cur took lines .act) × Told bs fs (walk (leavesOf plain) b later (suc left) (r ∷ rs) d over cur took lines .rows)
@@ -170,11 +170,11 @@ module _ (bs fs : List ℕ) where
           rw (walk-step (leavesOf plain) b later left r rs d over cur took lines, q)
           (c .0, (rw (walk-lines (leavesOf plain) b later left rs (suc d) (over || leavesOf plain .header (r .item .line)) cur took lines) (h .0), (h .1 .0, c .1)))
       go (absorb next) q c m =
-          let w = m next (absorbs-lacks (step-absorbs (leavesOf plain) b later (r .act) (r .item) d over cur took lines (linesIn rs) next q) (h .1 .0) (h .0 .clear) k) in
+          let w = m next (absorbs-lacks (step-absorbs (leavesOf plain) b later (r .act) (r .item) d over cur took lines (rowLines rs) next q) (h .1 .0) (h .0 .clear) k) in
           rw (walk-step (leavesOf plain) b later left r rs d over cur took lines, q)
           (w .0, (rw (walk-lines (leavesOf plain) b later left rs (suc d) (over || leavesOf plain .header (r .item .line)) next (d ∷ took) (r .item .line ∷ lines)) (h .0), (u, w .1)))
 
-  turn-told : (x : Item) (below : List (List ℕ)) (rs : List Row) → Told bs fs rs → RowTold bs fs x (linesIn rs) → Told bs fs (turn (leavesOf plain) x below rs)
+  turn-told : (x : Item) (below : List (List ℕ)) (rs : List Row) → Told bs fs rs → RowTold bs fs x (rowLines rs) → Told bs fs (turn (leavesOf plain) x below rs)
   unfolding turn Told goodAct
   turn-told x below rs h k = go (tries (leavesOf plain) (x .line) rs) refl
     where
@@ -308,7 +308,7 @@ module _ {t bs fs : List ℕ} (p : Placed t bs fs) where
   pub block-at : (n : ℕ) → n < length (linesOf t) → getD bs n 0 ≡ getD (blockIds (linesOf t)) n 0
   block-at n h = sym (getD-take (length (linesOf t)) bs n 0 h) ∙ ap (λ (l : List ℕ). getD l n 0) (p .blocks-are)
 
-  pub start-at : (n : ℕ) → n < length (linesOf t) → eqb (getD fs n 0) 1 ≡ startsBelow plain (linesIn (rowsAt t n))
+  pub start-at : (n : ℕ) → n < length (linesOf t) → eqb (getD fs n 0) 1 ≡ startsBelow plain (rowLines (rowsAt t n))
   unfolding startsBelow
   start-at n h =
       let m : n < length (cleaned (linesOf t)) = omega (arith, cleaned-length (linesOf t)) in
@@ -318,9 +318,9 @@ module _ {t bs fs : List ℕ} (p : Placed t bs fs) where
       ∙ ap (λ (l : List (List ℕ)). startsAbove (reverse l)) (sym (clean-take n (linesOf t)))
       ∙ ap (λ (l : List (List ℕ)). startsAbove (reverse (cleaned l))) (sym (ap reverse (lines-given (rowsAt t n)) ∙ reverse-reverse (given (rowsAt t n)) ∙ given-at t n))
 
-  row-told : (n : ℕ) → n < length (linesOf t) → RowTold bs fs (itemAt t n) (linesIn (rowsAt t n))
+  row-told : (n : ℕ) → n < length (linesOf t) → RowTold bs fs (itemAt t n) (rowLines (rowsAt t n))
   row-told n h =
-      let q : length (linesIn (rowsAt t n)) ≡ n = lines-many (rowsAt t n) ∙ many-at t n (omega arith) in
+      let q : length (rowLines (rowsAt t n)) ≡ n = lines-many (rowsAt t n) ∙ many-at t n (omega arith) in
       record {
         clear = clear-at (linesOf t) n h (lines-noLf t);
         block = ap (λ (k : ℕ). getD bs k 0) q ∙ block-at n h;

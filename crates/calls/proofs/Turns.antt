@@ -19,8 +19,8 @@ use Rattle.place.specs.Region.{isHeader}
 use Rattle.place.specs.Inner.Fill.{Filled}
 use Rattle.reading.specs.Reading.{plain}
 use Rattle.calls.specs.LeavesOf.{isCall, isControlLine, leavesOf}
-use Rattle.calls.specs.Calls.{Item, Row, Walked, tries, settleRow, linesIn, climb, actsUp, readLater, walk, turn, rebuildCallsActs, rebuildCalls}
-use Rattle.calls.specs.Inner.Tables.{ownerOf, ownersOf, rowsTo, rowsAt, walkAt, lineAt, Keeps, Stands, Placed, Foot, Peaked, Spot, Ready, Turned, Rebuilt}
+use Rattle.calls.specs.Calls.{Item, Row, Walked, tries, settleRow, rowLines, climb, actsUp, readLater, walk, turn, rebuildCallsActs, rebuildCalls}
+use Rattle.calls.specs.Inner.Tables.{ownerOf, ownersOf, rowsTo, rowsAt, walkAt, lineAt, Keeps, Stands, Placed, Foot, Peaked, LineAt, Ready, TurnedLine, Rebuilt}
 use Rattle.calls.proofs.Cut.{acts-more, acts-length}
 use Rattle.calls.proofs.Edges.{given, given-length, walk-given}
 use Rattle.calls.proofs.Owners.{walk-owned, keep-owner}
@@ -153,7 +153,7 @@ module _ {t : List ℕ} {n i e : ℕ} {bs fs owner stack : List ℕ} {o : ℕ} {
 
   -- it takes nothing in
   pub turn-plain : (r : Bool) → r ≡ isCall (part i e t) && (eqb (getD fs n 0) 1 && not (isControlLine (part i e t))) → r ≡ false → {stack′ : List ℕ} {x : ℕ} →
-      Wrote stack o (unlines (part i e t ∷ [])) stack′ x → Turned t n owner (set owner n 0) stack′ o x
+      Wrote stack o (unlines (part i e t ∷ [])) stack′ x → TurnedLine t n owner (set owner n 0) stack′ o x
   unfolding act
   turn-plain r q z {stack′} {x} w = record {
     keeps = subst (λ (rows : List Row). Keeps t (suc n) rows (set owner n 0) stack′ x) (sym (rows-plain t n in-lines (tries-is r q ∙ z)))
@@ -213,7 +213,7 @@ module _ {t : List ℕ} {n i e : ℕ} {bs fs owner stack : List ℕ} {o : ℕ} {
           ap (λ (x : ℕ). drop x owner′) (sym z) ∙ sym (lib.Seq.drop-drop 1 n owner′) ∙ ap (drop 1) (p .beyond) ∙ lib.Seq.drop-drop 1 n (set owner n 0) ∙ ap (λ (x : ℕ). drop x (set owner n 0)) z ∙ beyond-set
 
       pub turn-walked : length owner′ ≡ length owner → (r : Bool) → r ≡ isCall (part i e t) && (eqb (getD fs n 0) 1 && not (isControlLine (part i e t))) → r ≡ true → {stack′ : List ℕ} {x : ℕ} →
-          Wrote stack height (unlines (l ∷ [])) stack′ x → Turned t n owner owner′ stack′ o x
+          Wrote stack height (unlines (l ∷ [])) stack′ x → TurnedLine t n owner owner′ stack′ o x
       turn-walked s r q z {stack′} {x} y = record {
         keeps = subst (λ (rows : List Row). Keeps t (suc n) rows owner′ stack′ x) (sym (rows-walked t n in-lines (tries-is r q ∙ z)))
             (push-keeps (p .keeps) in-lines (walk-rows t n in-lines) (itemAt t n) (walkAt t n .act) l (walk-acts t n in-lines) (p .line ∙ ap (λ (k : List ℕ). k ∷ []) (sym made-is)) (omega (arith, s, v .many)) owner-last y);
@@ -301,7 +301,7 @@ module _ {t bs fs owner₀ stack₀ cur₀ next₀ owner stack cur next : List �
         ∙ ap (λ (x : List ℕ). unlines (take n (linesOf t)) ++ x) (part-more t i e (end-after r) k ∙ ap (λ (x : ℕ). part i e t ++ (x ∷ [])) b ∙ ap (λ (x : List ℕ). x ++ (10 ∷ [])) (line-here r))
         ∙ sym (ap unlines (take-suc (linesOf t) n [] some-line) ∙ unlines-append (take n (linesOf t)) (lineAt t n ∷ []))
 
-    pub passes-on : {owner′ stack′ cur′ next′ : List ℕ} {o′ i′ : ℕ} → Turned t n owner owner′ stack′ o o′ → i′ ≡ min (e + 1) (length t) →
+    pub passes-on : {owner′ stack′ cur′ next′ : List ℕ} {o′ i′ : ℕ} → TurnedLine t n owner owner′ stack′ o o′ → i′ ≡ min (e + 1) (length t) →
         length owner′ ≡ length owner → length stack′ ≡ length stack → length cur′ ≡ length cur → length next′ ≡ length next →
         Passes t bs fs owner₀ stack₀ cur₀ next₀ owner′ stack′ cur′ next′ i′ (n + 1) o′
     passes-on {owner′} {stack′} {cur′} {next′} {o′} {i′} w z l₁ l₂ l₃ l₄ =

@@ -12,7 +12,7 @@ use Rattle.reading.specs.Uses.{lineReads}
 use Rattle.forms.specs.Breaks.{breaks}
 use Rattle.calls.specs.Leaves.{Leaves, store}
 use Rattle.calls.specs.LeavesOf.{parsedOf, contextOf, startsBelow, leavesOf}
-use Rattle.calls.specs.Calls.{Item, Row, Step, end, skip, absorb, linesIn, has, readLater, breaksOne, putBy, storeStep, stepAt}
+use Rattle.calls.specs.Calls.{Item, Row, Step, end, skip, absorb, rowLines, has, readLater, breaksOne, putBy, storeStep, stepAt}
 use Rattle.calls.specs.Inner.Steps.{breaksDown, absorbStep}
 use Rattle.calls.specs.Inner.Tables.{ownerOf}
 use Rattle.calls.proofs.Edges.{takenLines, taken-lines, Passed, none-yet, over-row, took-row, ownerBack, by-table}
@@ -38,20 +38,20 @@ passed-length (took-row x k) = ap suc (passed-length k)
 -- ---- the lines that were absorbed are those whose owner is the line that the walk started from
 
 module _ (L : Leaves) (value : List ℕ) where
-  breaks-down : (back : List Row) → breaksOne L value (takenLines back (length back)) ≡ breaksDown (L .breaks value) (linesIn back) (ownersIn back)
-  unfolding breaksOne takenLines breaksDown linesIn ownersIn
+  breaks-down : (back : List Row) → breaksOne L value (takenLines back (length back)) ≡ breaksDown (L .breaks value) (rowLines back) (ownersIn back)
+  unfolding breaksOne takenLines breaksDown rowLines ownersIn
   breaks-down [] = refl
   breaks-down (r ∷ rs) = rw (owners-length rs, less-one (length rs)) (go (eqb (ownerOf (r .act)) (suc (length rs))) (breaks-down rs))
     where
       less-one : (n : ℕ) → suc n - 1 ≡ n
       less-one n = omega arith
 
-      go : (t : Bool) → breaksOne L value (takenLines rs (length rs)) ≡ breaksDown (L .breaks value) (linesIn rs) (ownersIn rs) →
-          breaksOne L value (cond t (r .item .line ∷ []) [] ++ takenLines rs (length rs)) ≡ (t && L .breaks value (r .item .line)) || breaksDown (L .breaks value) (linesIn rs) (ownersIn rs)
+      go : (t : Bool) → breaksOne L value (takenLines rs (length rs)) ≡ breaksDown (L .breaks value) (rowLines rs) (ownersIn rs) →
+          breaksOne L value (cond t (r .item .line ∷ []) [] ++ takenLines rs (length rs)) ≡ (t && L .breaks value (r .item .line)) || breaksDown (L .breaks value) (rowLines rs) (ownersIn rs)
       go true h = ap (λ (b : Bool). L .breaks value (r .item .line) || b) h
       go false h = h
 
-  pub lines-down : {back : List Row} {d : ℕ} {took : List ℕ} {lines : List (List ℕ)} → Passed back d took lines → breaksOne L value lines ≡ breaksDown (L .breaks value) (linesIn back) (ownersIn back)
+  pub lines-down : {back : List Row} {d : ℕ} {took : List ℕ} {lines : List (List ℕ)} → Passed back d took lines → breaksOne L value lines ≡ breaksDown (L .breaks value) (rowLines back) (ownersIn back)
   lines-down {back = back} {d = d} p =
       let n : d - 1 ≡ length back = omega (arith, passed-length p) in
       ap (breaksOne L value) (taken-lines p ∙ ap (takenLines back) n) ∙ breaks-down back
@@ -71,11 +71,11 @@ row-stands L b later gone x t d over cur took lines above q = let z : _≡_ {A =
 pub store-absorb : (R : Reading) (b : ℕ) (below : List (List ℕ)) {back : List Row} {d : ℕ} {took : List ℕ} {lines : List (List ℕ)} → Passed back d took lines →
     (t : List ℕ) (v : ℕ) (value : List ℕ) → parsedOf t ≡ store v value → (over : Bool) (cur : List ℕ) (blk : ℕ) (above : List (List ℕ)) →
     storeStep (leavesOf R) b (λ (v : ℕ). readLater (leavesOf R) v below) (parsedOf t) over cur lines blk above
-    ≡ cond (not over && (eqb blk b && startsBelow R above)) (absorbStep R cur v value below (linesIn back) (ownersIn back)) end
+    ≡ cond (not over && (eqb blk b && startsBelow R above)) (absorbStep R cur v value below (rowLines back) (ownersIn back)) end
 unfolding storeStep absorbStep
 store-absorb R b below {back = back} {lines = lines} p t v value e over cur blk above =
     rw (e, lines-down (leavesOf R) value p)
-    (go (not over) (eqb blk b) (startsBelow R above) (eqb (lineReads v cur) 1 && (not (readLater (leavesOf R) v below) && not (breaksDown (breaks value) (linesIn back) (ownersIn back)))) (putBy (leavesOf R) (contextOf cur v) cur v value))
+    (go (not over) (eqb blk b) (startsBelow R above) (eqb (lineReads v cur) 1 && (not (readLater (leavesOf R) v below) && not (breaksDown (breaks value) (rowLines back) (ownersIn back)))) (putBy (leavesOf R) (contextOf cur v) cur v value))
   where
     go : (f g h k : Bool) (s : Step) → cond (f && (g && (h && k))) s end ≡ cond (f && (g && h)) (cond k s end) end
     go false g h k s = refl

@@ -7,7 +7,7 @@ use native.Mathlib.Omega.{arith}
 use lib.Dec.{eqb}
 use Rattle.lines.specs.Acts.{Act, keep, become, into, gone, act, apply}
 use Rattle.calls.specs.Leaves.{Leaves, Parsed, store, other, Context}
-use Rattle.calls.specs.Calls.{Item, Row, Walked, Step, end, skip, absorb, stop, pass, tries, settleRow, linesIn, linesOn, has, climb, made, onStep, itemsOf, readLater, breaksOne, putBy, storeStep, stepAt, walk, turn, rowsOf, rebuildCalls}
+use Rattle.calls.specs.Calls.{Item, Row, Walked, Step, end, skip, absorb, stop, pass, tries, settleRow, rowLines, linesOn, has, climb, made, onStep, itemsOf, readLater, breaksOne, putBy, storeStep, stepAt, walk, turn, rowsOf, rebuildCalls}
 use Rattle.calls.proofs.Cut.{walk-step}
 use Rattle.calls.proofs.Edges.{standing, rebuilt, items-on}
 
@@ -96,12 +96,12 @@ module _
       walk-weight l zero rs d over cur took lines k = omega arith
       walk-weight l (suc left) [] d over cur took lines k = omega arith
       walk-weight l (suc left) (r ∷ rs) d over cur took lines k =
-          go (stepAt L b later (r .act) (r .item) d over cur took lines (linesIn rs)) refl
+          go (stepAt L b later (r .act) (r .item) d over cur took lines (rowLines rs)) refl
           (walk-weight l left rs (suc d) (over || L .header (r .item .line)) cur took lines k)
           (λ next. walk-weight l left rs (suc d) (over || L .header (r .item .line)) next (d ∷ took) (r .item .line ∷ lines) (made-some d took next l))
         where
           go : (s : Step)
-              → stepAt L b later (r .act) (r .item) d over cur took lines (linesIn rs) ≡ s
+              → stepAt L b later (r .act) (r .item) d over cur took lines (rowLines rs) ≡ s
               → weighs w (act (walk L b later left rs (suc d) (over || L .header (r .item .line)) cur took lines .act) l) + weigh (walk L b later left rs (suc d) (over || L .header (r .item .line)) cur took lines .rows) ≤ w cur + weigh rs
               → ((next : List ℕ) → weighs w (act (walk L b later left rs (suc d) (over || L .header (r .item .line)) next (d ∷ took) (r .item .line ∷ lines) .act) l) + weigh (walk L b later left rs (suc d) (over || L .header (r .item .line)) next (d ∷ took) (r .item .line ∷ lines) .rows) ≤ w next + weigh rs)
               → weighs w (act (walk L b later (suc left) (r ∷ rs) d over cur took lines .act) l) + weigh (walk L b later (suc left) (r ∷ rs) d over cur took lines .rows) ≤ w cur + weigh (r ∷ rs)
@@ -112,7 +112,7 @@ module _
           go (absorb next) q c m =
               let w′ = walk L b later left rs (suc d) (over || L .header (r .item .line)) next (d ∷ took) (r .item .line ∷ lines) in
               rw (walk-step L b later left r rs d over cur took lines, q)
-              (omega (arith, m next, weigh-gone (r .item) d (w′ .rows), weigh-cons r rs, step-fits (r .act) (r .item) d over cur took lines (linesIn rs) next q))
+              (omega (arith, m next, weigh-gone (r .item) d (w′ .rows), weigh-cons r rs, step-fits (r .act) (r .item) d over cur took lines (rowLines rs) next q))
 
     turn-weight : (x : Item) (below : List (List ℕ)) (rs : List Row) → weigh (turn L x below rs) ≤ w (x .line) + weigh rs
     unfolding turn

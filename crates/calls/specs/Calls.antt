@@ -23,9 +23,9 @@ pub record Walked : Type 0 where
   pub rows : List Row
 
 -- the lines of rows, as they were given
-unfoldable pub linesIn : List Row → List (List ℕ)
-linesIn [] = []
-linesIn (r ∷ rs) = r .item .line ∷ linesIn rs
+unfoldable pub rowLines : List Row → List (List ℕ)
+rowLines [] = []
+rowLines (r ∷ rs) = r .item .line ∷ rowLines rs
 
 -- the lines that are still to come
 unfoldable pub linesOn : List Item → List (List ℕ)
@@ -140,11 +140,11 @@ module _ (L : Leaves) where
         let ended = stop took cur (r ∷ rs) in
         let skipped = pass (r .item) (r .act) (walk left rs (suc d) over′ cur took lines) in
         let absorbed : List ℕ → Walked = λ next. pass (r .item) (into d) (walk left rs (suc d) over′ next (d ∷ took) (r .item .line ∷ lines)) in
-        onStep (stepAt (r .act) (r .item) d over cur took lines (linesIn rs)) ended skipped absorbed
+        onStep (stepAt (r .act) (r .item) d over cur took lines (rowLines rs)) ended skipped absorbed
 
   -- li is a call line that may take values in
   abbrev pub tries : List ℕ → List Row → Bool
-  tries l rows = L .call l && (L .starts (linesIn rows) && not (L .control l))
+  tries l rows = L .call l && (L .starts (rowLines rows) && not (L .control l))
 
   -- li among the rows, with what became of it
   abbrev pub settleRow : Item → Walked → List Row
@@ -163,7 +163,7 @@ module _ (L : Leaves) where
 
   -- what becomes of each line
   unfoldable pub rebuildCallsActs : List (List ℕ) → List Act
-  unfolding climb linesIn linesOn has orEnd storesIn readLater breaksOne walk turn rowsOf itemsOf actsUp
+  unfolding climb rowLines linesOn has orEnd storesIn readLater breaksOne walk turn rowsOf itemsOf actsUp
   rebuildCallsActs ls = actsUp (rowsOf (itemsOf ls (L .blocks ls)) []) []
 
   -- `rebuild_calls`

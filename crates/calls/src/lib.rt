@@ -25,9 +25,9 @@ ghost use Rattle.place.specs.Inner.Ends.{endMarks};
 ghost use Rattle.records.specs.Inner.Records.{Told};
 ghost use Rattle.calls.specs.LeavesOf.{isCall, isControlLine, contextOf, leavesOf};
 ghost use Rattle.calls.specs.Calls.{readLater, putBy, rebuildCallsActs, rebuildCalls};
-ghost use Rattle.calls.specs.Inner.Steps.{isSecond, mayControl, breaksDown, wrapped, absorbStep, PutAs};
+ghost use Rattle.calls.specs.Inner.Steps.{isSecond, mayControl, breaksDown, wrappedCall, absorbStep, PutAs};
 ghost use Rattle.calls.specs.Inner.Later.{Noted, Spans};
-ghost use Rattle.calls.specs.Inner.Tables.{rowsAt, Keeps, Stands, Placed, Foot, Peaked, Ready, Turned, Rebuilt, ownersOf};
+ghost use Rattle.calls.specs.Inner.Tables.{rowsAt, Keeps, Stands, Placed, Foot, Peaked, Ready, TurnedLine, Rebuilt, ownersOf};
 
 // What putting a value into a line makes: a line of so many bytes, or nothing.
 pub enum Made {
@@ -196,8 +196,8 @@ fn breaks_above(value: &[u8], text: &[u8], owner: &[usize], out: &mut [u8]) -> b
 
 // Writes a line with a value in parentheses in the place of a hit, and returns the place after it.
 fn put_wrapped(line: &[u8], w: text::Span, value: &[u8], out: &mut [u8]) -> usize
-    requires { ⌜ length (replacedAt (w .from) (w .to) (now line) (wrapped (now value))) ≤ length (now out) ⌝ }
-    ensures { λ r. ⌜ Wrote (now (out .entry)) 0 (replacedAt (w .from) (w .to) (now (line .entry)) (wrapped (now (value .entry)))) (now (out .exit)) r ⌝ }
+    requires { ⌜ length (replacedAt (w .from) (w .to) (now line) (wrappedCall (now value))) ≤ length (now out) ⌝ }
+    ensures { λ r. ⌜ Wrote (now (out .entry)) 0 (replacedAt (w .from) (w .to) (now (line .entry)) (wrappedCall (now (value .entry)))) (now (out .exit)) r ⌝ }
 {
     let from = w.from;
     let to = w.to;
@@ -391,7 +391,7 @@ fn turn_line(
     next: &mut [u8],
 ) -> usize
     requires { ⌜ (Ready (now text) n i e (now blocks) (now starts) (now owner) (now stack) o (now cur) (now next)) × (Spans (now text) (now notes)) ⌝ }
-    ensures { λ r. ⌜ Turned (now (text .entry)) n (now (owner .entry)) (now (owner .exit)) (now (stack .exit)) o r ⌝ }
+    ensures { λ r. ⌜ TurnedLine (now (text .entry)) n (now (owner .entry)) (now (owner .exit)) (now (stack .exit)) o r ⌝ }
 {
     owner[n] = 0;
     if !takes(&text[i..e], starts[n] == 1) {

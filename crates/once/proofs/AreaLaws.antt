@@ -11,7 +11,7 @@ use Rattle.place.specs.Region.{isHeader, untilHeader, region, regionAt}
 use Rattle.reading.specs.Uses.{lineReads}
 use Rattle.once.specs.Once.{readCount}
 use Rattle.once.specs.Inner.Noted.{farFrom, areaOf}
-use Rattle.decls.specs.Inner.Firsts.{firstBy, readFrom, headFrom}
+use Rattle.decls.specs.Inner.Firsts.{firstBy, readBelow, headFrom}
 use Rattle.decls.proofs.SeenLaws.{first-le}
 
 -- ---- from the first line on: run is the region of the line above the one with k above it
@@ -87,23 +87,23 @@ area-head run l us r e h k = go (ltb r (length us)) refl
 
 -- ---- how often a region reads a register
 
-unread : (v : ℕ) (us : List (List ℕ)) → readFrom v us ≤ headFrom us → readCount v (untilHeader us) ≡ 0
+unread : (v : ℕ) (us : List (List ℕ)) → readBelow v us ≤ headFrom us → readCount v (untilHeader us) ≡ 0
 unfolding firstBy readCount untilHeader
 unread v [] h = refl
 unread v (l ∷ us) h = go (λ z. unread v us z) (isHeader l) (ltb 0 (lineReads v l)) refl (first-le (λ (l : List ℕ). isHeader l) us) h
   where
-    go : (readFrom v us ≤ headFrom us → readCount v (untilHeader us) ≡ 0) → (a b : Bool) → ltb 0 (lineReads v l) ≡ b → headFrom us ≤ length us → cond b (suc (length us)) (readFrom v us) ≤ cond a (suc (length us)) (headFrom us) →
+    go : (readBelow v us ≤ headFrom us → readCount v (untilHeader us) ≡ 0) → (a b : Bool) → ltb 0 (lineReads v l) ≡ b → headFrom us ≤ length us → cond b (suc (length us)) (readBelow v us) ≤ cond a (suc (length us)) (headFrom us) →
         readCount v (cond a [] (l ∷ untilHeader us)) ≡ 0
     go f true b x y z = refl
     go f false true x y z = absurd (omega arith)
     go f false false x y z = let n = ltb-false 0 (lineReads v l) x in let q = f z in omega arith
 
-pub read-some : (v : ℕ) (us : List (List ℕ)) → headFrom us < readFrom v us → 1 ≤ readCount v (untilHeader us)
+pub read-some : (v : ℕ) (us : List (List ℕ)) → headFrom us < readBelow v us → 1 ≤ readCount v (untilHeader us)
 unfolding firstBy readCount untilHeader
 read-some v [] h = absurd (omega arith)
 read-some v (l ∷ us) h = go (λ z. read-some v us z) (isHeader l) (ltb 0 (lineReads v l)) refl (first-le (λ (l : List ℕ). ltb 0 (lineReads v l)) us) h
   where
-    go : (headFrom us < readFrom v us → 1 ≤ readCount v (untilHeader us)) → (a b : Bool) → ltb 0 (lineReads v l) ≡ b → readFrom v us ≤ length us → cond a (suc (length us)) (headFrom us) < cond b (suc (length us)) (readFrom v us) →
+    go : (headFrom us < readBelow v us → 1 ≤ readCount v (untilHeader us)) → (a b : Bool) → ltb 0 (lineReads v l) ≡ b → readBelow v us ≤ length us → cond a (suc (length us)) (headFrom us) < cond b (suc (length us)) (readBelow v us) →
         1 ≤ readCount v (cond a [] (l ∷ untilHeader us))
     go f true true x y z = absurd (omega arith)
     go f true false x y z = absurd (omega arith)
@@ -111,17 +111,17 @@ read-some v (l ∷ us) h = go (λ z. read-some v us z) (isHeader l) (ltb 0 (line
     go f false false x y z = let q = f z in omega arith
 
 -- where the first line reads it: once where no line of the region does again, else more than once
-pub next-count : (v : ℕ) (us : List (List ℕ)) → headFrom us < length us → readFrom v us ≡ length us →
+pub next-count : (v : ℕ) (us : List (List ℕ)) → headFrom us < length us → readBelow v us ≡ length us →
     (farFrom v us ≤ headFrom us → readCount v (untilHeader us) ≡ 1) × (headFrom us < farFrom v us → 2 ≤ readCount v (untilHeader us))
 unfolding firstBy readCount untilHeader farFrom
 next-count v [] h k = absurd (omega arith)
 next-count v (e ∷ us) h k =
     go (isHeader e) (ltb 0 (lineReads v e)) refl (ltb 1 (lineReads v e)) refl (first-le (λ (l : List ℕ). isHeader l) us) (first-le (λ (l : List ℕ). ltb 0 (lineReads v l)) us) h k
   where
-    go : (a b : Bool) → ltb 0 (lineReads v e) ≡ b → (c : Bool) → ltb 1 (lineReads v e) ≡ c → headFrom us ≤ length us → readFrom v us ≤ length us → cond a (suc (length us)) (headFrom us) < suc (length us) →
-        cond b (suc (length us)) (readFrom v us) ≡ suc (length us) →
-        (cond b (cond c (suc (length us)) (readFrom v us)) (farFrom v us) ≤ cond a (suc (length us)) (headFrom us) → readCount v (cond a [] (e ∷ untilHeader us)) ≡ 1)
-        × (cond a (suc (length us)) (headFrom us) < cond b (cond c (suc (length us)) (readFrom v us)) (farFrom v us) → 2 ≤ readCount v (cond a [] (e ∷ untilHeader us)))
+    go : (a b : Bool) → ltb 0 (lineReads v e) ≡ b → (c : Bool) → ltb 1 (lineReads v e) ≡ c → headFrom us ≤ length us → readBelow v us ≤ length us → cond a (suc (length us)) (headFrom us) < suc (length us) →
+        cond b (suc (length us)) (readBelow v us) ≡ suc (length us) →
+        (cond b (cond c (suc (length us)) (readBelow v us)) (farFrom v us) ≤ cond a (suc (length us)) (headFrom us) → readCount v (cond a [] (e ∷ untilHeader us)) ≡ 1)
+        × (cond a (suc (length us)) (headFrom us) < cond b (cond c (suc (length us)) (readBelow v us)) (farFrom v us) → 2 ≤ readCount v (cond a [] (e ∷ untilHeader us)))
     go true b x c y i j h k = absurd (omega arith)
     go false false x c y i j h k = absurd (omega arith)
     go false true x true y i j h k = let m = ltb-true 1 (lineReads v e) y in (λ q. absurd (omega arith), λ q. omega arith)

@@ -20,7 +20,7 @@ use Rattle.once.specs.Once.{none, read, write, deadBy, laterRead}
 use Rattle.once.specs.Inner.Tables.{nextIn}
 use Rattle.slots.specs.Inner.Slots.{slotOf, entryOf}
 use Rattle.slots.proofs.SlotLaws.{Placed}
-use Rattle.decls.specs.Inner.Firsts.{firstBy, readFrom, storeFrom, headFrom}
+use Rattle.decls.specs.Inner.Firsts.{firstBy, readBelow, storeFrom, headFrom}
 use Rattle.decls.proofs.SeenLaws.{first-le}
 use Rattle.once.specs.Inner.Noted.{farFrom, samePath, noteBy, storeNote, lineNote, readNext, sentTo, maySend, DropIs, SendIs, NoteIs}
 
@@ -33,38 +33,38 @@ above r s h n = go (ltb r s) refl
 
 -- ---- a read before the next store
 
-pub later-from : (v : ℕ) (ls : List (List ℕ)) → laterRead v ls ≡ ltb (storeFrom v ls) (readFrom v ls)
+pub later-from : (v : ℕ) (ls : List (List ℕ)) → laterRead v ls ≡ ltb (storeFrom v ls) (readBelow v ls)
 unfolding laterRead firstBy
 later-from v [] = refl
 later-from v (l ∷ ls) = go (later-from v ls) (first-le (λ (l : List ℕ). lineStores v l) ls) (first-le (λ (l : List ℕ). ltb 0 (lineReads v l)) ls) (lineStores v l) (ltb 0 (lineReads v l))
   where
-    go : laterRead v ls ≡ ltb (storeFrom v ls) (readFrom v ls) → storeFrom v ls ≤ length ls → readFrom v ls ≤ length ls → (a b : Bool) →
-        not a && (b || laterRead v ls) ≡ ltb (cond a (suc (length ls)) (storeFrom v ls)) (cond b (suc (length ls)) (readFrom v ls))
+    go : laterRead v ls ≡ ltb (storeFrom v ls) (readBelow v ls) → storeFrom v ls ≤ length ls → readBelow v ls ≤ length ls → (a b : Bool) →
+        not a && (b || laterRead v ls) ≡ ltb (cond a (suc (length ls)) (storeFrom v ls)) (cond b (suc (length ls)) (readBelow v ls))
     go h x y true true = sym (le-ltb (suc (length ls)) (suc (length ls)) (omega arith))
-    go h x y true false = sym (le-ltb (suc (length ls)) (readFrom v ls) (omega arith))
+    go h x y true false = sym (le-ltb (suc (length ls)) (readBelow v ls) (omega arith))
     go h x y false true = sym (lt-ltb (storeFrom v ls) (suc (length ls)) (omega arith))
     go h x y false false = h
 
-live-from : (v : ℕ) (ls : List (List ℕ)) → liveBelow v ls ≡ ltb (storeFrom v ls) (readFrom v ls) && ltb (headFrom ls) (readFrom v ls)
+live-from : (v : ℕ) (ls : List (List ℕ)) → liveBelow v ls ≡ ltb (storeFrom v ls) (readBelow v ls) && ltb (headFrom ls) (readBelow v ls)
 unfolding liveBelow firstBy
 live-from v [] = refl
 live-from v (l ∷ ls) =
     go (live-from v ls) (first-le (λ (l : List ℕ). lineStores v l) ls) (first-le (λ (l : List ℕ). ltb 0 (lineReads v l)) ls) (first-le (λ (l : List ℕ). isHeader l) ls)
     (lineStores v l) (ltb 0 (lineReads v l)) (isHeader l)
   where
-    go : liveBelow v ls ≡ ltb (storeFrom v ls) (readFrom v ls) && ltb (headFrom ls) (readFrom v ls) → storeFrom v ls ≤ length ls → readFrom v ls ≤ length ls → headFrom ls ≤ length ls → (a b c : Bool) →
+    go : liveBelow v ls ≡ ltb (storeFrom v ls) (readBelow v ls) && ltb (headFrom ls) (readBelow v ls) → storeFrom v ls ≤ length ls → readBelow v ls ≤ length ls → headFrom ls ≤ length ls → (a b c : Bool) →
         cond c false (not a && (b || liveBelow v ls))
-        ≡ ltb (cond a (suc (length ls)) (storeFrom v ls)) (cond b (suc (length ls)) (readFrom v ls)) && ltb (cond c (suc (length ls)) (headFrom ls)) (cond b (suc (length ls)) (readFrom v ls))
+        ≡ ltb (cond a (suc (length ls)) (storeFrom v ls)) (cond b (suc (length ls)) (readBelow v ls)) && ltb (cond c (suc (length ls)) (headFrom ls)) (cond b (suc (length ls)) (readBelow v ls))
     go h x y z a true true = sym (ap (λ (t : Bool). ltb (cond a (suc (length ls)) (storeFrom v ls)) (suc (length ls)) && t) (le-ltb (suc (length ls)) (suc (length ls)) (omega arith)) ∙ and-false (ltb (cond a (suc (length ls)) (storeFrom v ls)) (suc (length ls))))
-    go h x y z a false true = sym (ap (λ (t : Bool). ltb (cond a (suc (length ls)) (storeFrom v ls)) (readFrom v ls) && t) (le-ltb (suc (length ls)) (readFrom v ls) (omega arith)) ∙ and-false (ltb (cond a (suc (length ls)) (storeFrom v ls)) (readFrom v ls)))
+    go h x y z a false true = sym (ap (λ (t : Bool). ltb (cond a (suc (length ls)) (storeFrom v ls)) (readBelow v ls) && t) (le-ltb (suc (length ls)) (readBelow v ls) (omega arith)) ∙ and-false (ltb (cond a (suc (length ls)) (storeFrom v ls)) (readBelow v ls)))
     go h x y z true true false = rw (le-ltb (suc (length ls)) (suc (length ls)) (omega arith))
-    go h x y z true false false = rw (le-ltb (suc (length ls)) (readFrom v ls) (omega arith))
+    go h x y z true false false = rw (le-ltb (suc (length ls)) (readBelow v ls) (omega arith))
     go h x y z false true false = rw (lt-ltb (storeFrom v ls) (suc (length ls)) (omega arith), lt-ltb (headFrom ls) (suc (length ls)) (omega arith))
     go h x y z false false false = h
 
 -- ---- the next use in the region
 
-next-reads : (v : ℕ) (ls : List (List ℕ)) (ps : List ℕ) → length ls ≤ length ps → headFrom ls < readFrom v ls → storeFrom v ls ≤ readFrom v ls → nextIn v ls ps ≡ read
+next-reads : (v : ℕ) (ls : List (List ℕ)) (ps : List ℕ) → length ls ≤ length ps → headFrom ls < readBelow v ls → storeFrom v ls ≤ readBelow v ls → nextIn v ls ps ≡ read
 unfolding nextIn firstBy
 next-reads v [] ps n h k = absurd (omega arith)
 next-reads v (l ∷ ls) [] n h k = absurd (omega arith)
@@ -72,8 +72,8 @@ next-reads v (l ∷ ls) (p ∷ ps) n h k =
     go (λ h k. next-reads v ls ps (omega arith) h k) (first-le (λ (l : List ℕ). lineStores v l) ls) (first-le (λ (l : List ℕ). ltb 0 (lineReads v l)) ls) (first-le (λ (l : List ℕ). isHeader l) ls)
     (lineStores v l) (ltb 0 (lineReads v l)) (isHeader l) h k
   where
-    go : (headFrom ls < readFrom v ls → storeFrom v ls ≤ readFrom v ls → nextIn v ls ps ≡ read) → storeFrom v ls ≤ length ls → readFrom v ls ≤ length ls → headFrom ls ≤ length ls → (a b c : Bool) →
-        cond c (suc (length ls)) (headFrom ls) < cond b (suc (length ls)) (readFrom v ls) → cond a (suc (length ls)) (storeFrom v ls) ≤ cond b (suc (length ls)) (readFrom v ls) →
+    go : (headFrom ls < readBelow v ls → storeFrom v ls ≤ readBelow v ls → nextIn v ls ps ≡ read) → storeFrom v ls ≤ length ls → readBelow v ls ≤ length ls → headFrom ls ≤ length ls → (a b c : Bool) →
+        cond c (suc (length ls)) (headFrom ls) < cond b (suc (length ls)) (readBelow v ls) → cond a (suc (length ls)) (storeFrom v ls) ≤ cond b (suc (length ls)) (readBelow v ls) →
         cond c none (cond b read (cond a (write p) (nextIn v ls ps))) ≡ read
     go f x y z a true true h k = absurd (omega arith)
     go f x y z a false true h k = absurd (omega arith)
@@ -81,7 +81,7 @@ next-reads v (l ∷ ls) (p ∷ ps) n h k =
     go f x y z true false false h k = absurd (omega arith)
     go f x y z false false false h k = f h k
 
-next-stores : (v : ℕ) (ls : List (List ℕ)) (ps : List ℕ) → length ls ≤ length ps → headFrom ls < storeFrom v ls → readFrom v ls < storeFrom v ls →
+next-stores : (v : ℕ) (ls : List (List ℕ)) (ps : List ℕ) → length ls ≤ length ps → headFrom ls < storeFrom v ls → readBelow v ls < storeFrom v ls →
     nextIn v ls ps ≡ write (getD ps (length ls - storeFrom v ls) 0)
 unfolding nextIn firstBy
 next-stores v [] ps n h k = absurd (omega arith)
@@ -90,8 +90,8 @@ next-stores v (l ∷ ls) (p ∷ ps) n h k =
     go (λ h k. next-stores v ls ps (omega arith) h k) (first-le (λ (l : List ℕ). lineStores v l) ls) (first-le (λ (l : List ℕ). ltb 0 (lineReads v l)) ls) (first-le (λ (l : List ℕ). isHeader l) ls)
     (lineStores v l) (ltb 0 (lineReads v l)) (isHeader l) h k
   where
-    go : (headFrom ls < storeFrom v ls → readFrom v ls < storeFrom v ls → nextIn v ls ps ≡ write (getD ps (length ls - storeFrom v ls) 0)) → storeFrom v ls ≤ length ls → readFrom v ls ≤ length ls → headFrom ls ≤ length ls →
-        (a b c : Bool) → cond c (suc (length ls)) (headFrom ls) < cond a (suc (length ls)) (storeFrom v ls) → cond b (suc (length ls)) (readFrom v ls) < cond a (suc (length ls)) (storeFrom v ls) →
+    go : (headFrom ls < storeFrom v ls → readBelow v ls < storeFrom v ls → nextIn v ls ps ≡ write (getD ps (length ls - storeFrom v ls) 0)) → storeFrom v ls ≤ length ls → readBelow v ls ≤ length ls → headFrom ls ≤ length ls →
+        (a b c : Bool) → cond c (suc (length ls)) (headFrom ls) < cond a (suc (length ls)) (storeFrom v ls) → cond b (suc (length ls)) (readBelow v ls) < cond a (suc (length ls)) (storeFrom v ls) →
         cond c none (cond b read (cond a (write p) (nextIn v ls ps))) ≡ write (getD (p ∷ ps) (suc (length ls) - cond a (suc (length ls)) (storeFrom v ls)) 0)
     go f x y z true b true h k = absurd (omega arith)
     go f x y z false b true h k = absurd (omega arith)
@@ -101,15 +101,15 @@ next-stores v (l ∷ ls) (p ∷ ps) n h k =
     go f x y z false false false h k =
         let q : suc (length ls) - storeFrom v ls ≡ suc (length ls - storeFrom v ls) = omega arith in f h k ∙ ap (λ (i : ℕ). write (getD (p ∷ ps) i 0)) (sym q)
 
-next-none : (v : ℕ) (ls : List (List ℕ)) (ps : List ℕ) → readFrom v ls ≤ headFrom ls → storeFrom v ls ≤ headFrom ls → nextIn v ls ps ≡ none
+next-none : (v : ℕ) (ls : List (List ℕ)) (ps : List ℕ) → readBelow v ls ≤ headFrom ls → storeFrom v ls ≤ headFrom ls → nextIn v ls ps ≡ none
 unfolding nextIn firstBy
 next-none v [] ps h k = refl
 next-none v (l ∷ ls) [] h k = refl
 next-none v (l ∷ ls) (p ∷ ps) h k =
     go (λ h k. next-none v ls ps h k) (first-le (λ (l : List ℕ). isHeader l) ls) (lineStores v l) (ltb 0 (lineReads v l)) (isHeader l) h k
   where
-    go : (readFrom v ls ≤ headFrom ls → storeFrom v ls ≤ headFrom ls → nextIn v ls ps ≡ none) → headFrom ls ≤ length ls → (a b c : Bool) →
-        cond b (suc (length ls)) (readFrom v ls) ≤ cond c (suc (length ls)) (headFrom ls) → cond a (suc (length ls)) (storeFrom v ls) ≤ cond c (suc (length ls)) (headFrom ls) →
+    go : (readBelow v ls ≤ headFrom ls → storeFrom v ls ≤ headFrom ls → nextIn v ls ps ≡ none) → headFrom ls ≤ length ls → (a b c : Bool) →
+        cond b (suc (length ls)) (readBelow v ls) ≤ cond c (suc (length ls)) (headFrom ls) → cond a (suc (length ls)) (storeFrom v ls) ≤ cond c (suc (length ls)) (headFrom ls) →
         cond c none (cond b read (cond a (write p) (nextIn v ls ps))) ≡ none
     go f z a b true h k = refl
     go f z a true false h k = absurd (omega arith)
@@ -124,19 +124,19 @@ one-as (suc zero) = refl
 one-as (suc (suc n)) =
     rw (ne-eqb (suc (suc n)) 1 (λ (q : suc (suc n) ≡ 1). omega arith), lt-ltb 0 (suc (suc n)) (omega arith), lt-ltb 1 (suc (suc n)) (omega arith))
 
-sent-from : (v : ℕ) (ls : List (List ℕ)) → sentTo v ls ≡ eqb (readFrom v ls) (length ls) && (ltb (storeFrom v ls) (readFrom v ls) && not (ltb (storeFrom v ls) (farFrom v ls)))
+sent-from : (v : ℕ) (ls : List (List ℕ)) → sentTo v ls ≡ eqb (readBelow v ls) (length ls) && (ltb (storeFrom v ls) (readBelow v ls) && not (ltb (storeFrom v ls) (farFrom v ls)))
 unfolding sentTo firstBy farFrom
 sent-from v [] = refl
 sent-from v (l ∷ ls) =
     ap (λ (t : Bool). not (lineStores v l) && (t && not (laterRead v ls))) (one-as (lineReads v l))
     ∙ go (later-from v ls) (first-le (λ (l : List ℕ). lineStores v l) ls) (first-le (λ (l : List ℕ). ltb 0 (lineReads v l)) ls) (lineStores v l) (ltb 0 (lineReads v l)) (ltb 1 (lineReads v l))
   where
-    go : laterRead v ls ≡ ltb (storeFrom v ls) (readFrom v ls) → storeFrom v ls ≤ length ls → readFrom v ls ≤ length ls → (a b c : Bool) →
+    go : laterRead v ls ≡ ltb (storeFrom v ls) (readBelow v ls) → storeFrom v ls ≤ length ls → readBelow v ls ≤ length ls → (a b c : Bool) →
         not a && ((b && not c) && not (laterRead v ls))
-        ≡ eqb (cond b (suc (length ls)) (readFrom v ls)) (suc (length ls))
-        && (ltb (cond a (suc (length ls)) (storeFrom v ls)) (cond b (suc (length ls)) (readFrom v ls))
-        && not (ltb (cond a (suc (length ls)) (storeFrom v ls)) (cond b (cond c (suc (length ls)) (readFrom v ls)) (farFrom v ls))))
-    go h x y a false c = rw (ne-eqb (readFrom v ls) (suc (length ls)) (λ (q : readFrom v ls ≡ suc (length ls)). omega arith)) (and-false (not a))
+        ≡ eqb (cond b (suc (length ls)) (readBelow v ls)) (suc (length ls))
+        && (ltb (cond a (suc (length ls)) (storeFrom v ls)) (cond b (suc (length ls)) (readBelow v ls))
+        && not (ltb (cond a (suc (length ls)) (storeFrom v ls)) (cond b (cond c (suc (length ls)) (readBelow v ls)) (farFrom v ls))))
+    go h x y a false c = rw (ne-eqb (readBelow v ls) (suc (length ls)) (λ (q : readBelow v ls ≡ suc (length ls)). omega arith)) (and-false (not a))
     go h x y true true c = rw (le-ltb (suc (length ls)) (suc (length ls)) (omega arith)) (sym (and-false (eqb (suc (length ls)) (suc (length ls)))))
     go h x y false true true = rw (eq-eqb (suc (length ls)) (suc (length ls)) refl, lt-ltb (storeFrom v ls) (suc (length ls)) (omega arith))
     go h x y false true false = rw (eq-eqb (suc (length ls)) (suc (length ls)) refl, lt-ltb (storeFrom v ls) (suc (length ls)) (omega arith), h)
@@ -151,7 +151,7 @@ send-nothing v ls = record { sent = λ q. no q; stays = λ q. no q }
 
 module _ (v p : ℕ) (ls : List (List ℕ)) (ps : List ℕ) (n : length ls ≤ length ps) where
   -- by the tests of the note
-  live-as : (a b : Bool) → ltb (storeFrom v ls) (readFrom v ls) ≡ a → ltb (headFrom ls) (readFrom v ls) ≡ b → liveBelow v ls ≡ a && b
+  live-as : (a b : Bool) → ltb (storeFrom v ls) (readBelow v ls) ≡ a → ltb (headFrom ls) (readBelow v ls) ≡ b → liveBelow v ls ≡ a && b
   live-as a b x y = live-from v ls ∙ rw (x, y)
 
   drop-live : (liveBelow v ls ≡ true) × (deadBy p (nextIn v ls ps) ≡ false) → (t g : Bool) → DropIs v p ls ps (cond t (cond g 4 7) 3)
@@ -167,56 +167,56 @@ module _ (v p : ℕ) (ls : List (List ℕ)) (ps : List ℕ) (n : length ls ≤ l
 
   module _ (same : Bool) (w : headFrom ls < storeFrom v ls → same ≡ eqb p (getD ps (length ls - storeFrom v ls) 0)) where
     -- a line stores it next
-    drop-stored : headFrom ls < storeFrom v ls → readFrom v ls < storeFrom v ls → DropIs v p ls ps (cond same 6 5)
+    drop-stored : headFrom ls < storeFrom v ls → readBelow v ls < storeFrom v ls → DropIs v p ls ps (cond same 6 5)
     drop-stored h k = go same (sym (w h))
       where
         d : deadBy p (nextIn v ls ps) ≡ eqb p (getD ps (length ls - storeFrom v ls) 0)
         d = ap (deadBy p) (next-stores v ls ps n h k)
 
         l : liveBelow v ls ≡ false
-        l = live-as false (ltb (headFrom ls) (readFrom v ls)) (le-ltb (storeFrom v ls) (readFrom v ls) (omega arith)) refl
+        l = live-as false (ltb (headFrom ls) (readBelow v ls)) (le-ltb (storeFrom v ls) (readBelow v ls) (omega arith)) refl
 
         go : (t : Bool) → eqb p (getD ps (length ls - storeFrom v ls) 0) ≡ t → DropIs v p ls ps (cond t 6 5)
         go true q = drop-dead (l, d ∙ q)
         go false q = drop-kept (l, d ∙ q)
 
-    drop-by : DropIs v p ls ps (noteBy (readFrom v ls) (farFrom v ls) (storeFrom v ls) (headFrom ls) (length ls) same)
-    drop-by = go (ltb (headFrom ls) (readFrom v ls)) refl (ltb (storeFrom v ls) (readFrom v ls)) refl (eqb (storeFrom v ls) (readFrom v ls)) refl (ltb (headFrom ls) (storeFrom v ls)) refl
+    drop-by : DropIs v p ls ps (noteBy (readBelow v ls) (farFrom v ls) (storeFrom v ls) (headFrom ls) (length ls) same)
+    drop-by = go (ltb (headFrom ls) (readBelow v ls)) refl (ltb (storeFrom v ls) (readBelow v ls)) refl (eqb (storeFrom v ls) (readBelow v ls)) refl (ltb (headFrom ls) (storeFrom v ls)) refl
       where
-        none-left : readFrom v ls ≤ headFrom ls → storeFrom v ls ≤ headFrom ls → (t : Bool) → DropIs v p ls ps (cond t 0 6)
+        none-left : readBelow v ls ≤ headFrom ls → storeFrom v ls ≤ headFrom ls → (t : Bool) → DropIs v p ls ps (cond t 0 6)
         none-left h k true = drop-nothing v p ls ps
-        none-left h k false = drop-dead (live-as (ltb (storeFrom v ls) (readFrom v ls)) false refl (le-ltb (headFrom ls) (readFrom v ls) h) ∙ and-false (ltb (storeFrom v ls) (readFrom v ls)), ap (deadBy p) (next-none v ls ps h k))
+        none-left h k false = drop-dead (live-as (ltb (storeFrom v ls) (readBelow v ls)) false refl (le-ltb (headFrom ls) (readBelow v ls) h) ∙ and-false (ltb (storeFrom v ls) (readBelow v ls)), ap (deadBy p) (next-none v ls ps h k))
 
-        go : (a : Bool) → ltb (headFrom ls) (readFrom v ls) ≡ a → (b : Bool) → ltb (storeFrom v ls) (readFrom v ls) ≡ b → (c : Bool) → eqb (storeFrom v ls) (readFrom v ls) ≡ c →
+        go : (a : Bool) → ltb (headFrom ls) (readBelow v ls) ≡ a → (b : Bool) → ltb (storeFrom v ls) (readBelow v ls) ≡ b → (c : Bool) → eqb (storeFrom v ls) (readBelow v ls) ≡ c →
             (d : Bool) → ltb (headFrom ls) (storeFrom v ls) ≡ d →
-            DropIs v p ls ps (cond (a && b) (cond (eqb (readFrom v ls) (length ls) && not (ltb (storeFrom v ls) (farFrom v ls))) (cond (ltb (headFrom ls) (farFrom v ls)) 4 7) 3) (cond (a && c) 5 (cond d (cond same 6 5) (cond (eqb (readFrom v ls) (length ls)) 0 6))))
+            DropIs v p ls ps (cond (a && b) (cond (eqb (readBelow v ls) (length ls) && not (ltb (storeFrom v ls) (farFrom v ls))) (cond (ltb (headFrom ls) (farFrom v ls)) 4 7) 3) (cond (a && c) 5 (cond d (cond same 6 5) (cond (eqb (readBelow v ls) (length ls)) 0 6))))
         go true x true y c z d u =
-            let h = ltb-true (headFrom ls) (readFrom v ls) x in
-            let k = ltb-true (storeFrom v ls) (readFrom v ls) y in
-            drop-live (live-as true true y x, ap (deadBy p) (next-reads v ls ps n h (omega arith))) (eqb (readFrom v ls) (length ls) && not (ltb (storeFrom v ls) (farFrom v ls))) (ltb (headFrom ls) (farFrom v ls))
+            let h = ltb-true (headFrom ls) (readBelow v ls) x in
+            let k = ltb-true (storeFrom v ls) (readBelow v ls) y in
+            drop-live (live-as true true y x, ap (deadBy p) (next-reads v ls ps n h (omega arith))) (eqb (readBelow v ls) (length ls) && not (ltb (storeFrom v ls) (farFrom v ls))) (ltb (headFrom ls) (farFrom v ls))
         go true x false y true z d u =
-            let h = ltb-true (headFrom ls) (readFrom v ls) x in
-            let k = eqb-true (storeFrom v ls) (readFrom v ls) z in
+            let h = ltb-true (headFrom ls) (readBelow v ls) x in
+            let k = eqb-true (storeFrom v ls) (readBelow v ls) z in
             drop-kept (live-as false true y x, ap (deadBy p) (next-reads v ls ps n h (omega arith)))
         go true x false y false z true u =
             let h = ltb-true (headFrom ls) (storeFrom v ls) u in
-            let k = ltb-false (storeFrom v ls) (readFrom v ls) y in
-            let j = eqb-false (storeFrom v ls) (readFrom v ls) z in
-            drop-stored h (above (readFrom v ls) (storeFrom v ls) k j)
+            let k = ltb-false (storeFrom v ls) (readBelow v ls) y in
+            let j = eqb-false (storeFrom v ls) (readBelow v ls) z in
+            drop-stored h (above (readBelow v ls) (storeFrom v ls) k j)
         go true x false y false z false u =
-            let h = ltb-true (headFrom ls) (readFrom v ls) x in
-            let k = ltb-false (storeFrom v ls) (readFrom v ls) y in
+            let h = ltb-true (headFrom ls) (readBelow v ls) x in
+            let k = ltb-false (storeFrom v ls) (readBelow v ls) y in
             let j = ltb-false (headFrom ls) (storeFrom v ls) u in
             absurd (omega arith)
         go false x b y c z true u =
             let h = ltb-true (headFrom ls) (storeFrom v ls) u in
-            let k = ltb-false (headFrom ls) (readFrom v ls) x in
+            let k = ltb-false (headFrom ls) (readBelow v ls) x in
             drop-stored h (omega arith)
-        go false x b y c z false u = none-left (ltb-false (headFrom ls) (readFrom v ls) x) (ltb-false (headFrom ls) (storeFrom v ls) u) (eqb (readFrom v ls) (length ls))
+        go false x b y c z false u = none-left (ltb-false (headFrom ls) (readBelow v ls) x) (ltb-false (headFrom ls) (storeFrom v ls) u) (eqb (readBelow v ls) (length ls))
 
 module _ (v : ℕ) (ls : List (List ℕ)) where
   -- by the tests of the note
-  sent-as : (a b c : Bool) → eqb (readFrom v ls) (length ls) ≡ a → ltb (storeFrom v ls) (readFrom v ls) ≡ b → ltb (storeFrom v ls) (farFrom v ls) ≡ c → sentTo v ls ≡ a && (b && not c)
+  sent-as : (a b c : Bool) → eqb (readBelow v ls) (length ls) ≡ a → ltb (storeFrom v ls) (readBelow v ls) ≡ b → ltb (storeFrom v ls) (farFrom v ls) ≡ c → sentTo v ls ≡ a && (b && not c)
   sent-as a b c x y z = sent-from v ls ∙ rw (x, y, z)
 
   send-not : sentTo v ls ≡ false → (m : ℕ) → maySend m ≡ false → SendIs v ls m
@@ -227,31 +227,31 @@ module _ (v : ℕ) (ls : List (List ℕ)) where
   send-next true false h = record { sent = λ q. h; stays = λ q. no q }
   send-next false g h = send-not h 3 refl
 
-  send-by : (same : Bool) → SendIs v ls (noteBy (readFrom v ls) (farFrom v ls) (storeFrom v ls) (headFrom ls) (length ls) same)
-  send-by same = go (ltb (headFrom ls) (readFrom v ls)) refl (ltb (storeFrom v ls) (readFrom v ls)) refl (eqb (storeFrom v ls) (readFrom v ls)) (ltb (headFrom ls) (storeFrom v ls)) refl
+  send-by : (same : Bool) → SendIs v ls (noteBy (readBelow v ls) (farFrom v ls) (storeFrom v ls) (headFrom ls) (length ls) same)
+  send-by same = go (ltb (headFrom ls) (readBelow v ls)) refl (ltb (storeFrom v ls) (readBelow v ls)) refl (eqb (storeFrom v ls) (readBelow v ls)) (ltb (headFrom ls) (storeFrom v ls)) refl
     where
-      unread : ltb (storeFrom v ls) (readFrom v ls) ≡ false → sentTo v ls ≡ false
-      unread y = sent-as (eqb (readFrom v ls) (length ls)) false (ltb (storeFrom v ls) (farFrom v ls)) refl y refl ∙ and-false (eqb (readFrom v ls) (length ls))
+      unread : ltb (storeFrom v ls) (readBelow v ls) ≡ false → sentTo v ls ≡ false
+      unread y = sent-as (eqb (readBelow v ls) (length ls)) false (ltb (storeFrom v ls) (farFrom v ls)) refl y refl ∙ and-false (eqb (readBelow v ls) (length ls))
 
       stored : sentTo v ls ≡ false → (t : Bool) → SendIs v ls (cond t 6 5)
       stored h true = send-not h 6 refl
       stored h false = send-not h 5 refl
 
-      unused : (t : Bool) → eqb (readFrom v ls) (length ls) ≡ t → SendIs v ls (cond t 0 6)
+      unused : (t : Bool) → eqb (readBelow v ls) (length ls) ≡ t → SendIs v ls (cond t 0 6)
       unused true x = send-nothing v ls
-      unused false x = send-not (sent-as false (ltb (storeFrom v ls) (readFrom v ls)) (ltb (storeFrom v ls) (farFrom v ls)) x refl refl) 6 refl
+      unused false x = send-not (sent-as false (ltb (storeFrom v ls) (readBelow v ls)) (ltb (storeFrom v ls) (farFrom v ls)) x refl refl) 6 refl
 
-      go : (a : Bool) → ltb (headFrom ls) (readFrom v ls) ≡ a → (b : Bool) → ltb (storeFrom v ls) (readFrom v ls) ≡ b → (c d : Bool) → ltb (headFrom ls) (storeFrom v ls) ≡ d →
-          SendIs v ls (cond (a && b) (cond (eqb (readFrom v ls) (length ls) && not (ltb (storeFrom v ls) (farFrom v ls))) (cond (ltb (headFrom ls) (farFrom v ls)) 4 7) 3) (cond (a && c) 5 (cond d (cond same 6 5) (cond (eqb (readFrom v ls) (length ls)) 0 6))))
-      go true x true y c d u = send-next (eqb (readFrom v ls) (length ls) && not (ltb (storeFrom v ls) (farFrom v ls))) (ltb (headFrom ls) (farFrom v ls)) (sent-as (eqb (readFrom v ls) (length ls)) true (ltb (storeFrom v ls) (farFrom v ls)) refl y refl)
+      go : (a : Bool) → ltb (headFrom ls) (readBelow v ls) ≡ a → (b : Bool) → ltb (storeFrom v ls) (readBelow v ls) ≡ b → (c d : Bool) → ltb (headFrom ls) (storeFrom v ls) ≡ d →
+          SendIs v ls (cond (a && b) (cond (eqb (readBelow v ls) (length ls) && not (ltb (storeFrom v ls) (farFrom v ls))) (cond (ltb (headFrom ls) (farFrom v ls)) 4 7) 3) (cond (a && c) 5 (cond d (cond same 6 5) (cond (eqb (readBelow v ls) (length ls)) 0 6))))
+      go true x true y c d u = send-next (eqb (readBelow v ls) (length ls) && not (ltb (storeFrom v ls) (farFrom v ls))) (ltb (headFrom ls) (farFrom v ls)) (sent-as (eqb (readBelow v ls) (length ls)) true (ltb (storeFrom v ls) (farFrom v ls)) refl y refl)
       go true x false y true d u = send-not (unread y) 5 refl
       go true x false y false true u = stored (unread y) same
-      go true x false y false false u = unused (eqb (readFrom v ls) (length ls)) refl
+      go true x false y false false u = unused (eqb (readBelow v ls) (length ls)) refl
       go false x b y c true u =
           let h = ltb-true (headFrom ls) (storeFrom v ls) u in
-          let k = ltb-false (headFrom ls) (readFrom v ls) x in
-          stored (unread (le-ltb (storeFrom v ls) (readFrom v ls) (omega arith))) same
-      go false x b y c false u = unused (eqb (readFrom v ls) (length ls)) refl
+          let k = ltb-false (headFrom ls) (readBelow v ls) x in
+          stored (unread (le-ltb (storeFrom v ls) (readBelow v ls) (omega arith))) same
+      go false x b y c false u = unused (eqb (readBelow v ls) (length ls)) refl
 
 -- by its tests
 abbrev noteOf : Bool → Bool → Bool → Bool → Bool → Bool → Bool → ℕ
@@ -310,8 +310,8 @@ pub record Nexts (own : List ℕ) (ls : List (List ℕ)) (h : ℕ) (near far sto
   pub wide : length far ≡ length near
   pub tall : length far ≡ length stores
   pub head : h ≡ headFrom ls
-  pub reads : (v : ℕ) → Placed own v near → entryOf own v near ≡ readFrom v ls
-  pub again : (v : ℕ) → Placed own v near → storeFrom v ls < readFrom v ls → entryOf own v far ≡ farFrom v ls
+  pub reads : (v : ℕ) → Placed own v near → entryOf own v near ≡ readBelow v ls
+  pub again : (v : ℕ) → Placed own v near → storeFrom v ls < readBelow v ls → entryOf own v far ≡ farFrom v ls
   pub stored : (v : ℕ) → Placed own v near → entryOf own v stores ≡ storeFrom v ls
 
 module _ (own l : List ℕ) (ls : List (List ℕ)) (ps : List ℕ) (k h : ℕ) (near far stores : List ℕ) (t : Nexts own ls h near far stores) (n : k + 1 + length ls ≡ length ps) where
@@ -322,10 +322,10 @@ module _ (own l : List ℕ) (ls : List (List ℕ)) (ps : List ℕ) (k h : ℕ) (
       rw (le-ltb (length ps) (storeFrom v ls) (omega arith), getD-drop (k + 1) ps (length ls - storeFrom v ls) 0, i)
 
   note-as : (v : ℕ) → Placed own v near → noteBy (entryOf own v near) (entryOf own v far) (entryOf own v stores) h (length ls) (samePath ps k (entryOf own v stores))
-      ≡ noteBy (readFrom v ls) (farFrom v ls) (storeFrom v ls) (headFrom ls) (length ls) (samePath ps k (storeFrom v ls))
+      ≡ noteBy (readBelow v ls) (farFrom v ls) (storeFrom v ls) (headFrom ls) (length ls) (samePath ps k (storeFrom v ls))
   note-as v x =
       rw (t .reads v x, t .stored v x, t .head)
-      (note-far (readFrom v ls) (entryOf own v far) (farFrom v ls) (storeFrom v ls) (headFrom ls) (length ls) (samePath ps k (storeFrom v ls)) (t .again v x))
+      (note-far (readBelow v ls) (entryOf own v far) (farFrom v ls) (storeFrom v ls) (headFrom ls) (length ls) (samePath ps k (storeFrom v ls)) (t .again v x))
 
   store-note : (v : ℕ) → (m : ℕ) → m ≡ storeNote own v ps k (length ls) h near far stores →
       DropIs v (getD ps k 0) ls (drop (k + 1) ps) m × (SendIs v ls m × ((m ≡ 1 → ⊥) × (m ≡ 2 → ⊥)))
@@ -341,7 +341,7 @@ module _ (own l : List ℕ) (ls : List (List ℕ)) (ps : List ℕ) (k h : ℕ) (
       go true x e =
           let d = length-drop (k + 1) ps in
           rw (e ∙ note-as v (ltb-true (slotOf (length near) own v) (length near) x))
-          (drop-by v (getD ps k 0) ls (drop (k + 1) ps) (omega arith) (samePath ps k (storeFrom v ls)) (same-as v), (send-by v ls (samePath ps k (storeFrom v ls)), store-kind (readFrom v ls) (farFrom v ls) (storeFrom v ls) (headFrom ls) (length ls) (samePath ps k (storeFrom v ls))))
+          (drop-by v (getD ps k 0) ls (drop (k + 1) ps) (omega arith) (samePath ps k (storeFrom v ls)) (same-as v), (send-by v ls (samePath ps k (storeFrom v ls)), store-kind (readBelow v ls) (farFrom v ls) (storeFrom v ls) (headFrom ls) (length ls) (samePath ps k (storeFrom v ls))))
 
   pub note-is : (p : Line) (m : ℕ) → p ≡ parseOf l → m ≡ lineNote own p ps k (length ls) h near far stores → NoteIs l (getD ps k 0) ls (drop (k + 1) ps) m
   unfolding stored-by reg-by
@@ -363,7 +363,7 @@ module _ (own l : List ℕ) (ls : List (List ℕ)) (ps : List ℕ) (k h : ℕ) (
 
   -- a store whose value may go into the next line: that one reads it
   pub line-may : (s : Store) (m : ℕ) → m ≡ lineNote own (line.Store s) ps k (length ls) h near far stores → maySend m ≡ true →
-      Placed own (s .reg .0) near × ((headFrom ls < length ls) × ((readFrom (s .reg .0) ls ≡ length ls) × (m ≡ cond (ltb (headFrom ls) (farFrom (s .reg .0) ls)) 4 7)))
+      Placed own (s .reg .0) near × ((headFrom ls < length ls) × ((readBelow (s .reg .0) ls ≡ length ls) × (m ≡ cond (ltb (headFrom ls) (farFrom (s .reg .0) ls)) 4 7)))
   line-may s m q z = go (ltb (slotOf (length near) own v) (length near)) refl q
     where
       v : ℕ
@@ -371,12 +371,12 @@ module _ (own l : List ℕ) (ls : List (List ℕ)) (ps : List ℕ) (k h : ℕ) (
 
       go : (a : Bool) → ltb (slotOf (length near) own v) (length near) ≡ a →
           m ≡ cond a (noteBy (entryOf own v near) (entryOf own v far) (entryOf own v stores) h (length ls) (samePath ps k (entryOf own v stores))) 0 →
-          Placed own v near × ((headFrom ls < length ls) × ((readFrom v ls ≡ length ls) × (m ≡ cond (ltb (headFrom ls) (farFrom v ls)) 4 7)))
+          Placed own v near × ((headFrom ls < length ls) × ((readBelow v ls ≡ length ls) × (m ≡ cond (ltb (headFrom ls) (farFrom v ls)) 4 7)))
       go false x e = no (sym (ap maySend e) ∙ z)
       go true x e =
           let i = ltb-true (slotOf (length near) own v) (length near) x in
           let w = e ∙ note-as v i in
-          let n = note-may (readFrom v ls) (farFrom v ls) (storeFrom v ls) (headFrom ls) (length ls) (samePath ps k (storeFrom v ls)) (sym (ap maySend w) ∙ z) in
+          let n = note-may (readBelow v ls) (farFrom v ls) (storeFrom v ls) (headFrom ls) (length ls) (samePath ps k (storeFrom v ls)) (sym (ap maySend w) ∙ z) in
           (i, (omega (arith, n .0, n .1 .0), (n .1 .0, w ∙ n .1 .1)))
 
 -- a note that says nothing

@@ -28,7 +28,7 @@ use Rattle.reading.specs.Uses.{lineReads, storesBy, lineStores}
 use Rattle.decls.specs.Inner.Seen.{markName, markStore, AtMost}
 use Rattle.slots.specs.Inner.Slots.{slotOf, entryOf, withEntry}
 use Rattle.slots.proofs.SlotLaws.{Placed, slot-kept, entry-length, entry-after, zeros-long}
-use Rattle.decls.specs.Inner.Firsts.{firstBy, readFrom, storeFrom, headFrom}
+use Rattle.decls.specs.Inner.Firsts.{firstBy, readBelow, storeFrom, headFrom}
 use Rattle.decls.proofs.SeenLaws.{set-past, name-length, store-length, store-entry, first-le}
 use Rattle.once.specs.Once.{readCount}
 use Rattle.once.specs.Inner.Noted.{farFrom, farName, aloneIn, aloneStore, takeBack, backBy, backName, Reads, readName, readRuns, areaOf, Begins, StartOf, lineNote, maySend, NoteIs, firstLine, NotesOf, OneOf}
@@ -198,8 +198,8 @@ module _ (own : List ℕ) (c : ℕ) (l : List ℕ) (ls : List (List ℕ)) (p : L
       lst : length stores′ ≡ length stores
       lst = ap (λ (d : List ℕ). length d) z ∙ store-length own m p stores
 
-      go : (v : ℕ) → Placed own v near → (a b : Bool) → lineStores v l ≡ b → cond b (suc (length ls)) (storeFrom v ls) < cond a (suc (length ls)) (readFrom v ls) →
-          cond a (cond (ltb 1 (lineReads v l)) m (entryOf own v near)) (entryOf own v (aloneStore own m x p far)) ≡ cond a (cond (ltb 1 (lineReads v l)) (suc (length ls)) (readFrom v ls)) (farFrom v ls)
+      go : (v : ℕ) → Placed own v near → (a b : Bool) → lineStores v l ≡ b → cond b (suc (length ls)) (storeFrom v ls) < cond a (suc (length ls)) (readBelow v ls) →
+          cond a (cond (ltb 1 (lineReads v l)) m (entryOf own v near)) (entryOf own v (aloneStore own m x p far)) ≡ cond a (cond (ltb 1 (lineReads v l)) (suc (length ls)) (readBelow v ls)) (farFrom v ls)
       go v k true b i j = rw (t .reads v k, q)
       go v k false true i j = let n = first-le (λ (l : List ℕ). ltb 0 (lineReads v l)) ls in absurd (omega arith)
       go v k false false i j = alone-at v k false (ap (λ (b : Bool). eqb x 7 && b) i ∙ and-false (eqb x 7)) ∙ t .again v k j
@@ -387,7 +387,7 @@ pub record OneRow (own : List ℕ) (ls us : List (List ℕ)) (near far : List �
   pub row : k + suc next ≡ length ls
   pub among : next ≤ length us
   pub known : Placed own v near
-  pub first : headFrom us < next → readFrom v us ≡ next
+  pub first : headFrom us < next → readBelow v us ≡ next
   pub mine : headFrom us < next → entryOf own v far ≡ suc next
   pub up : CountUp (λ (n : ℕ). n ≡ 1) v next us
 
@@ -457,7 +457,7 @@ module _ (own : List ℕ) (ls : List (List ℕ)) (l : List ℕ) (us : List (List
 
   -- the line's own note
   own-may : (s : Store) → parseOf l ≡ line.Store s → maySend x ≡ true →
-      Placed own (s .reg .0) near × ((headFrom us < length us) × ((readFrom (s .reg .0) us ≡ length us) × (x ≡ cond (ltb (headFrom us) (farFrom (s .reg .0) us)) 4 7)))
+      Placed own (s .reg .0) near × ((headFrom us < length us) × ((readBelow (s .reg .0) us ≡ length us) × (x ≡ cond (ltb (headFrom us) (farFrom (s .reg .0) us)) 4 7)))
   own-may s i z = line-may own l us ps j h near far stores t n s x (u ∙ ap (λ (k : Line). lineNote own k ps j (length us) h near far stores) (e ∙ i)) z
 
   far-one : (v : ℕ) → x ≡ 7 → x ≡ cond (ltb (headFrom us) (farFrom v us)) 4 7 → farFrom v us ≤ headFrom us
@@ -516,7 +516,7 @@ module _ (own : List ℕ) (ls : List (List ℕ)) (l : List ℕ) (us : List (List
       go true z =
           stores-some v l (parseOf l) refl (and-right (eqb x 7) (lineStores v l) z) (λ s i w.
           let y = own-may s i (ap maySend (eqb-true x 7 (and-left (eqb x 7) (lineStores v l) z))) in
-          let f : readFrom v us ≡ length us = ap (λ (c : ℕ). readFrom c us) (sym w) ∙ y .1 .1 .0 in
+          let f : readBelow v us ≡ length us = ap (λ (c : ℕ). readBelow c us) (sym w) ∙ y .1 .1 .0 in
           absurd (o (omega (arith, f, r .first a, r .row, n, g))))
 
   -- the notes with the line's own, before its reads
@@ -598,7 +598,7 @@ module _ (own : List ℕ) (ls : List (List ℕ)) (l : List ℕ) (us : List (List
       known = slot-kept own near near′ v near-len (r .known);
       first = λ a.
           let b = header-off (r .next) (r .among) a in
-          ap (λ (t : Bool). cond t (suc (length us)) (readFrom v us)) (silent k v r q b (ltb 0 (lineReads v l)) refl) ∙ r .first b;
+          ap (λ (t : Bool). cond t (suc (length us)) (readBelow v us)) (silent k v r q b (ltb 0 (lineReads v l)) refl) ∙ r .first b;
       mine = λ a.
           let b = header-off (r .next) (r .among) a in
           far-is v (r .known) ∙ ap (λ (t : Bool). cond t (cond (ltb 1 (lineReads v l)) m (entryOf own v near)) (entryOf own v far₁)) (silent k v r q b (ltb 0 (lineReads v l)) refl) ∙ r .mine b;

@@ -30,6 +30,10 @@ unfoldable pub allRegs : List (List ℕ) → Bool
 allRegs [] = true
 allRegs (p ∷ ps) = isReg (regOf (trimOf p)) && allRegs ps
 
+-- a trimmed line begins with `let `, and ends with `;`
+unfoldable pub isLet : List ℕ → Bool
+isLet t = ltb 4 (length t) && (prefixed letWord t && endsIn (code ";") t)
+
 -- a trimmed line is a declaration
 unfoldable pub isDecl : List ℕ → Bool
 isDecl t = ltb 4 (length t) && (prefixed letWord t && (endsIn (code ";") t && allRegs (partsOf (code ",") (bodyOf t))))

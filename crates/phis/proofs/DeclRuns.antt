@@ -19,12 +19,12 @@ use Rattle.names.specs.declared.PhiName.{PhiName}
 use Rattle.names.specs.declared.PhiName.the-variants as name
 use Rattle.names.proofs.Equal.{front-of}
 use Rattle.names.proofs.Texts.{phi-names, phi-text-value}
-use Rattle.parse.specs.Parse.{letWord, bodyOf}
+use Rattle.parse.specs.Parse.{letWord, bodyOf, isLet}
 use Rattle.words.specs.Runs.{flush, runsGo, runs, countBy}
 use Rattle.words.specs.Inner.Runs.{wordsOf}
 use Rattle.words.specs.Hits.{hits}
 use Rattle.words.proofs.RunLaws.{count-append}
-use Rattle.phis.specs.Phis.{isLet, isPhi, allPhis, phiDecl, anyPhi, phiStore, phiOwn, phiReads}
+use Rattle.phis.specs.Phis.{isPhi, allPhis, phiDecl, anyPhi, phiStore, phiOwn, phiReads}
 use Rattle.phis.proofs.Lines.{let-long, phi-hits}
 use Rattle.phis.proofs.Held.{or-off}
 use Rattle.words.proofs.Walk.{go-gap}

@@ -11,7 +11,7 @@ use Rattle.text.specs.Utf8Form.{seqLen, scan, utf8Of}
 use Rattle.text.specs.Trim.{whiteChar, whiteHead, whiteTail, lead, fromOf, endWhite, toOf, trimOf}
 use Rattle.names.specs.Names.{numbered, readNumber, decimalBy, decimal, regOf, phiOf, isTemp, isIdent}
 use Rattle.names.specs.Inner.Names.{zeros, numberAfter}
-use Rattle.parse.specs.Parse.{allRegs, isDecl, storeIn, parseOf, textOf}
+use Rattle.parse.specs.Parse.{allRegs, isDecl, storeIn, parseOf, textOf, isLet}
 use Rattle.words.specs.Runs.{runsGo, runs, countBy}
 use Rattle.words.specs.Inner.Runs.{upBy, walkRuns, runHits}
 use Rattle.words.specs.Hits.{hitsGo, hits, oneHit, regHit, afterNew, asTarget, glueLeft, glueRight, glued, replacedAt, replaceReg}
@@ -35,7 +35,7 @@ use Rattle.expr.specs.Quotes.{cutGo, stripQuoted, isClosed}
 use Rattle.expr.specs.Inner.Comments.{noComment}
 use Rattle.expr.specs.Pure.{spaceStart, spaceEnd, spaceTrim, wrapped, shapeOf, openings, closings, elements, pureBy, judge, purityIn}
 use Rattle.expr.specs.Inner.Pure.{purityCut}
-use Rattle.phis.specs.Phis.{isLet, allPhis, phiDecl, anyPhi, phiStore, phiOwn, phiReads, phiRead, phiStored, anyDead, livePhis, phiAct, phiActs, keeps, roundActs, round, pruneDeadPhis}
+use Rattle.phis.specs.Phis.{allPhis, phiDecl, anyPhi, phiStore, phiOwn, phiReads, phiRead, phiStored, anyDead, livePhis, phiAct, phiActs, keeps, roundActs, round, pruneDeadPhis}
 use Rattle.reading.specs.Reading.{plain, readingOf}
 
 -- the lines of a listing, and what they become

@@ -16,11 +16,11 @@ use Rattle.text.specs.Trim.{fromOf, toOf, trimStart, trimOf}
 use Rattle.names.specs.Names.{phiWord, phiText, decimal, phiOf}
 use Rattle.names.specs.declared.PhiName.{PhiName}
 use Rattle.names.specs.declared.PhiName.the-variants as name
-use Rattle.parse.specs.Parse.{bodyOf}
+use Rattle.parse.specs.Parse.{bodyOf, isLet}
 use Rattle.words.specs.Hits.{hitsGo, hits}
 use Rattle.reading.specs.Assign.{unended, isAssign, leftOf}
 use Rattle.lines.proofs.Lacking.{lines-lack}
-use Rattle.phis.specs.Phis.{isLet, isPhi, allPhis, phiDecl, phiStore, phiReads, anyDead}
+use Rattle.phis.specs.Phis.{isPhi, allPhis, phiDecl, phiStore, phiReads, anyDead}
 use Rattle.phis.proofs.Searches.{pieceOther, phis-all, piece-hit}
 
 -- ---- parts of a text

@@ -13,12 +13,12 @@ use Rattle.names.specs.Names.{phiWord, phiText, decimal, phiOf, phiIs}
 use Rattle.names.specs.declared.PhiName.{PhiName}
 use Rattle.names.specs.declared.PhiName.the-variants as name
 use Rattle.names.proofs.Texts.{phi-text-names}
-use Rattle.parse.specs.Parse.{letWord, bodyOf}
+use Rattle.parse.specs.Parse.{letWord, bodyOf, isLet}
 use Rattle.words.specs.Inner.Runs.{wordsOf}
 use Rattle.words.specs.Hits.{hits}
 use Rattle.words.proofs.HitLaws.{hits-words}
 use Rattle.reading.specs.Assign.{isAssign, leftOf}
-use Rattle.phis.specs.Phis.{isLet, allPhis, phiDecl, anyPhi, phiStore, phiOwn}
+use Rattle.phis.specs.Phis.{allPhis, phiDecl, anyPhi, phiStore, phiOwn}
 
 -- ---- a text, its front trimmed
 

@@ -15,7 +15,7 @@ use Rattle.lines.proofs.StepLaws.{missingLf, lines-text}
 use Rattle.text.specs.Trim.{fromOf, trimStart, trimOf}
 use Rattle.names.specs.Names.{readNumber, phiBy, phiOf}
 use Rattle.names.specs.declared.PhiName.the-variants as name
-use Rattle.parse.specs.Parse.{letWord, bodyOf}
+use Rattle.parse.specs.Parse.{letWord, bodyOf, isLet}
 use Rattle.lexical.specs.Phi.{phiRhsPure}
 use Rattle.weight.specs.Inner.Weight.{spaced, extra, weight}
 use Rattle.weight.proofs.Weigh.{length-weight, weight-append, weight-cut, weight-take, weight-drop, weight-line, nothing}
@@ -26,7 +26,7 @@ use Rattle.decls.specs.Inner.Print.{kept}
 use Rattle.decls.proofs.Decl.{longPiece, leftOut, trim-le, decl-pays, declares-by, picks-kept}
 use Rattle.reading.specs.Reading.{Reading, pureIn}
 use Rattle.reading.specs.Assign.{unended, isAssign, rightOf}
-use Rattle.phis.specs.Phis.{isLet, isPhi, allPhis, phiDecl, phiStore, phiDead, anyDead, livePhis, storeAct, phiAct, phiActs, keeps, roundActs, round, pruneDeadPhis}
+use Rattle.phis.specs.Phis.{isPhi, allPhis, phiDecl, phiStore, phiDead, anyDead, livePhis, storeAct, phiAct, phiActs, keeps, roundActs, round, pruneDeadPhis}
 use Rattle.phis.specs.Inner.Rounds.{live, longest}
 use Rattle.phis.proofs.Writes.{names-live, dead-assign}
 

@@ -20,14 +20,14 @@ use Rattle.names.specs.declared.Phi.{Phi}
 use Rattle.names.specs.declared.PhiName.{PhiName}
 use Rattle.names.specs.declared.PhiName.the-variants as name
 use Rattle.names.proofs.Texts.{phi-text-value}
-use Rattle.parse.specs.Parse.{bodyOf}
+use Rattle.parse.specs.Parse.{bodyOf, isLet}
 use Rattle.words.specs.Runs.{flush, runsGo, runs, countBy}
 use Rattle.words.specs.Inner.Runs.{wordsOf}
 use Rattle.words.proofs.Walk.{Walk, walk-start, walk-name, walk-gap, walk-end}
 use Rattle.slots.specs.Inner.Slots.{slotOf, entryOf, withEntry}
 use Rattle.slots.proofs.SlotLaws.{slot-kept, entry-length, entry-same, entry-other}
 use Rattle.decls.proofs.SeenLaws.{entry-past}
-use Rattle.phis.specs.Phis.{isLet, allPhis, phiDecl, phiStore, phiOwn, phiReads, phiRead, phiStored}
+use Rattle.phis.specs.Phis.{allPhis, phiDecl, phiStore, phiOwn, phiReads, phiRead, phiStored}
 use Rattle.phis.specs.Inner.Table.{noteStore, noteName, noteRuns, noteLine, noteLines, Tells}
 use Rattle.phis.proofs.Lines.{store-let, phi-hits}
 use Rattle.phis.proofs.Held.{held-store, held-reads}

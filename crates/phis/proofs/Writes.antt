@@ -20,14 +20,14 @@ use Rattle.names.specs.declared.Phi.{Phi}
 use Rattle.names.specs.declared.PhiName.{PhiName}
 use Rattle.names.specs.declared.PhiName.the-variants as name
 use Rattle.names.proofs.Texts.{phi-number}
-use Rattle.parse.specs.Parse.{bodyOf}
+use Rattle.parse.specs.Parse.{bodyOf, isLet}
 use Rattle.lexical.specs.Phi.{phiRhsPure}
 use Rattle.decls.specs.Inner.Print.{bareName, one, kept, declText}
 use Rattle.decls.proofs.PrintLaws.{after-bare, act-text}
 use Rattle.reading.specs.Reading.{Reading, pureIn}
 use Rattle.reading.specs.Assign.{isAssign, leftOf, rightOf}
 use Rattle.reading.proofs.AssignLaws.{part-le, right-le}
-use Rattle.phis.specs.Phis.{isLet, phiDecl, phiStore, deadPhi, phiDead, anyDead, livePhi, livePhis, storeAct, phiAct, phiActs, roundActs, round}
+use Rattle.phis.specs.Phis.{phiDecl, phiStore, deadPhi, phiDead, anyDead, livePhi, livePhis, storeAct, phiAct, phiActs, roundActs, round}
 use Rattle.phis.specs.Inner.Rounds.{liveBy, live, storeText, changeText}
 
 -- ---- the names that stay

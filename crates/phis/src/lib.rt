@@ -6,6 +6,7 @@ ghost use mathlib.Core.Bool.{true, false, _&&_, _||_};
 ghost use mathlib.Core.List.{[], _∷_, _++_};
 ghost use Prim.Native.Nat.{_≤_, _+_, max};
 ghost use lib.ListN.{length, drop, replicate};
+ghost use Rattle.parse.specs.Parse.{isLet};
 ghost use Rattle.lines.specs.Lf.{holds, partsOf, linesOf, unlines};
 ghost use Rattle.lines.specs.Inner.Out.{Wrote};
 ghost use Rattle.text.specs.Trim.{trimStart};
@@ -14,7 +15,7 @@ ghost use Rattle.lexical.specs.Phi.{phiRhsPure};
 ghost use Rattle.decls.specs.Inner.Print.{kept, declText};
 ghost use Rattle.reading.specs.Reading.{readingOf, pureIn};
 ghost use Rattle.reading.specs.Assign.{isAssign, rightOf};
-ghost use Rattle.phis.specs.Phis.{isLet, isPhi, allPhis, phiDecl, anyPhi, phiStore, phiOwn, phiReads, phiRead, phiStored, deadPhi, phiDead, anyDead, round, pruneDeadPhis};
+ghost use Rattle.phis.specs.Phis.{isPhi, allPhis, phiDecl, anyPhi, phiStore, phiOwn, phiReads, phiRead, phiStored, deadPhi, phiDead, anyDead, round, pruneDeadPhis};
 ghost use Rattle.phis.specs.Inner.Table.{Tells};
 ghost use Rattle.phis.specs.Inner.Rounds.{live, storeText, changeText, longest};
 

@@ -9,7 +9,7 @@ use borrow.Author.Tests.{eq-eqb, ne-eqb, eqb-true, eqb-false, lt-ltb, le-ltb, lt
 use lib.Dec.{eqb, leb, ltb}
 use lib.ListN.{length, take, drop, getD, replicate, length-append, length-take, length-drop}
 use lib.Seq.{take-at, drop-drop, take-take}
-use Rattle.lines.specs.Lf.{part, same, upTo, partsOf, cutOn}
+use Rattle.lines.specs.Lf.{part, same, upTo, partsOf, cutOn, lowBytes}
 use Rattle.lines.specs.Inner.Out.{Wrote, putAt}
 use Rattle.lines.proofs.OutLaws.{Writing, writing-start, writing-as, writing-room, writing-put, writing-end}
 use Rattle.lines.proofs.Tests.{no, or-false, and-left, and-right, and-false}
@@ -24,9 +24,9 @@ use Rattle.po.specs.Found.{decoded, known, empty}
 use Rattle.text.specs.Utf8Form.{utf8Of}
 use Rattle.po.specs.Form.{idWord, strWord, typeLine, escape, escaped, quoted, refLine}
 use Rattle.po.specs.Name.{isFileName}
-use Rattle.po.specs.Reader.{State, start, Read, bad, good, isValid, colon, valueOf, quotedText, isQuotedLine, nameIn, lineNumber, isRef, isId, awaited, onward, readGo, readOf, packed, lowBytes, given}
+use Rattle.po.specs.Reader.{State, start, Read, bad, good, isValid, colon, valueOf, quotedText, isQuotedLine, nameIn, lineNumber, isRef, isId, awaited, readOn, readGo, readOf, packed, given}
 use Rattle.po.specs.Answers.{readText, byRead, readAnswer, stringsNumber}
-use Rattle.po.specs.Inner.ReadWalk.{isReference, follows, nextOf, after, stateAt, sameId, met, givesOne, gives, At, isGood, verdict}
+use Rattle.po.specs.Inner.ReadWalk.{isReference, follows, nextOf, afterReading, stateAt, sameId, met, givesOne, gives, At, isGood, readVerdict}
 use Rattle.names.specs.Names.{readNumber}
 use Rattle.po.specs.declared.Unit.{Unit}
 use Rattle.po.specs.Inner.Walk.{unitOf}
@@ -50,11 +50,11 @@ abbrev passed : State → State
 passed s = record { awaits = suc (s .awaits); name = s .name; least = s .least; ids = s .ids; strs = s .strs }
 
 module _ (s : State) (l : List ℕ) where
-  step-is : onward s l ≡ cond (eqb (s .awaits) 4) (refd s l) (cond (eqb (s .awaits) 5) (ided s l) (cond (eqb (s .awaits) 6) (stred s l) (passed s)))
-  unfolding onward
+  step-is : readOn s l ≡ cond (eqb (s .awaits) 4) (refd s l) (cond (eqb (s .awaits) 5) (ided s l) (cond (eqb (s .awaits) 6) (stred s l) (passed s)))
+  unfolding readOn
   step-is = refl
 
-  pub on-awaits : onward s l .awaits ≡ nextOf (s .awaits)
+  pub on-awaits : readOn s l .awaits ≡ nextOf (s .awaits)
   on-awaits = ap (λ (t : State). t .awaits) step-is ∙ go (eqb (s .awaits) 4) refl (eqb (s .awaits) 5) refl (eqb (s .awaits) 6) refl
     where
       go : (a : Bool) → eqb (s .awaits) 4 ≡ a → (b : Bool) → eqb (s .awaits) 5 ≡ b → (c : Bool) → eqb (s .awaits) 6 ≡ c →
@@ -66,7 +66,7 @@ module _ (s : State) (l : List ℕ) where
       go false e false f true g = refl
       go false e false f false g = refl
 
-  pub on-ids : onward s l .ids ≡ cond (eqb (s .awaits) 5) (quotedText idWord l ∷ s .ids) (s .ids)
+  pub on-ids : readOn s l .ids ≡ cond (eqb (s .awaits) 5) (quotedText idWord l ∷ s .ids) (s .ids)
   on-ids = ap (λ (t : State). t .ids) step-is ∙ go (eqb (s .awaits) 4) refl (eqb (s .awaits) 5) refl (eqb (s .awaits) 6)
     where
       go : (a : Bool) → eqb (s .awaits) 4 ≡ a → (b : Bool) → eqb (s .awaits) 5 ≡ b → (c : Bool) →
@@ -77,13 +77,13 @@ module _ (s : State) (l : List ℕ) where
       go false e false f true = refl
       go false e false f false = refl
 
-  pub on-name : s .awaits ≡ 4 → onward s l .name ≡ nameIn l
+  pub on-name : s .awaits ≡ 4 → readOn s l .name ≡ nameIn l
   on-name e = ap (λ (t : State). t .name) step-is ∙ ap (λ (a : Bool). cond a (refd s l) (cond (eqb (s .awaits) 5) (ided s l) (cond (eqb (s .awaits) 6) (stred s l) (passed s))) .name) (eq-eqb (s .awaits) 4 e)
 
-  pub on-least : s .awaits ≡ 4 → onward s l .least ≡ lineNumber l
+  pub on-least : s .awaits ≡ 4 → readOn s l .least ≡ lineNumber l
   on-least e = ap (λ (t : State). t .least) step-is ∙ ap (λ (a : Bool). cond a (refd s l) (cond (eqb (s .awaits) 5) (ided s l) (cond (eqb (s .awaits) 6) (stred s l) (passed s))) .least) (eq-eqb (s .awaits) 4 e)
 
-  pub keep-name : (s .awaits ≡ 4 → ⊥) → onward s l .name ≡ s .name
+  pub keep-name : (s .awaits ≡ 4 → ⊥) → readOn s l .name ≡ s .name
   keep-name n = ap (λ (t : State). t .name) step-is ∙ go (eqb (s .awaits) 4) (ne-eqb (s .awaits) 4 n) (eqb (s .awaits) 5) (eqb (s .awaits) 6)
     where
       go : (a : Bool) → a ≡ false → (b c : Bool) → cond a (refd s l) (cond b (ided s l) (cond c (stred s l) (passed s))) .name ≡ s .name
@@ -92,7 +92,7 @@ module _ (s : State) (l : List ℕ) where
       go false z false true = refl
       go false z false false = refl
 
-  pub keep-least : (s .awaits ≡ 4 → ⊥) → onward s l .least ≡ s .least
+  pub keep-least : (s .awaits ≡ 4 → ⊥) → readOn s l .least ≡ s .least
   keep-least n = ap (λ (t : State). t .least) step-is ∙ go (eqb (s .awaits) 4) (ne-eqb (s .awaits) 4 n) (eqb (s .awaits) 5) (eqb (s .awaits) 6)
     where
       go : (a : Bool) → a ≡ false → (b c : Bool) → cond a (refd s l) (cond b (ided s l) (cond c (stred s l) (passed s))) .least ≡ s .least
@@ -113,7 +113,7 @@ or-swap true false = refl
 or-swap false true = refl
 or-swap false false = refl
 
-known-step : (s : State) (l x : List ℕ) → known (onward s l .ids) x ≡ known (s .ids) x || sameId (s .awaits) l x
+known-step : (s : State) (l x : List ℕ) → known (readOn s l .ids) x ≡ known (s .ids) x || sameId (s .awaits) l x
 unfolding known
 known-step s l x = ap (λ (is : List (List ℕ)). known is x) (on-ids s l) ∙ go (eqb (s .awaits) 5)
   where
@@ -121,12 +121,12 @@ known-step s l x = ap (λ (is : List (List ℕ)). known is x) (on-ids s l) ∙ g
     go true = or-swap (same (quotedText idWord l) x) (known (s .ids) x)
     go false = sym (or-false (known (s .ids) x))
 
-met-after : (ls : List (List ℕ)) (s : State) (x : List ℕ) → known (after ls s .ids) x ≡ known (s .ids) x || met (s .awaits) ls x
-unfolding after met
+met-after : (ls : List (List ℕ)) (s : State) (x : List ℕ) → known (afterReading ls s .ids) x ≡ known (s .ids) x || met (s .awaits) ls x
+unfolding afterReading met
 met-after [] s x = sym (or-false (known (s .ids) x))
 met-after (l ∷ ls) s x =
-    met-after ls (onward s l) x
-    ∙ ap (λ (b : Bool). b || met (onward s l .awaits) ls x) (known-step s l x)
+    met-after ls (readOn s l) x
+    ∙ ap (λ (b : Bool). b || met (readOn s l .awaits) ls x) (known-step s l x)
     ∙ ap (λ (w : ℕ). (known (s .ids) x || sameId (s .awaits) l x) || met w ls x) (on-awaits s l)
     ∙ or-assoc (known (s .ids) x) (sameId (s .awaits) l x) (met (nextOf (s .awaits)) ls x)
 
@@ -172,18 +172,18 @@ module _ (file : List ℕ) (i e : ℕ) (h : i ≤ length file) (q : e ≡ i + up
 
 -- ---- the state at a line
 
-after-append : (xs ys : List (List ℕ)) (s : State) → after (xs ++ ys) s ≡ after ys (after xs s)
-unfolding after
+after-append : (xs ys : List (List ℕ)) (s : State) → afterReading (xs ++ ys) s ≡ afterReading ys (afterReading xs s)
+unfolding afterReading
 after-append [] ys s = refl
-after-append (x ∷ xs) ys s = after-append xs ys (onward s x)
+after-append (x ∷ xs) ys s = after-append xs ys (readOn s x)
 
 module _ {file : List ℕ} {r : Line} (v : At file r) where
   above : take (r .number) (partsOf 10 file) ≡ v .done
   above = ap (take (r .number)) (v .split) ∙ take-at (v .done) (partsOf 10 (drop (r .at) file)) (r .number) (v .size)
 
-  pub at-state : stateAt file (r .number) ≡ after (v .done) start
+  pub at-state : stateAt file (r .number) ≡ afterReading (v .done) start
   unfolding stateAt
-  at-state = ap (λ (ls : List (List ℕ)). after ls start) above
+  at-state = ap (λ (ls : List (List ℕ)). afterReading ls start) above
 
   module _ (more : r .end < length file) where
     split-on : partsOf 10 file ≡ (v .done ++ part (r .at) (r .end) file ∷ []) ++ partsOf 10 (drop (r .end + 1) file)
@@ -198,16 +198,16 @@ module _ {file : List ℕ} {r : Line} (v : At file r) where
     above-on : take (r .number + 1) (partsOf 10 file) ≡ v .done ++ part (r .at) (r .end) file ∷ []
     above-on = ap (take (r .number + 1)) split-on ∙ take-at (v .done ++ part (r .at) (r .end) file ∷ []) (partsOf 10 (drop (r .end + 1) file)) (r .number + 1) size-on
 
-    pub state-on : stateAt file (r .number + 1) ≡ onward (stateAt file (r .number)) (part (r .at) (r .end) file)
-    unfolding stateAt after
+    pub state-on : stateAt file (r .number + 1) ≡ readOn (stateAt file (r .number)) (part (r .at) (r .end) file)
+    unfolding stateAt afterReading
     state-on =
-        ap (λ (ls : List (List ℕ)). after ls start) above-on
+        ap (λ (ls : List (List ℕ)). afterReading ls start) above-on
         ∙ after-append (v .done) (part (r .at) (r .end) file ∷ []) start
-        ∙ ap (λ (s : State). onward s (part (r .at) (r .end) file)) (sym at-state)
+        ∙ ap (λ (s : State). readOn s (part (r .at) (r .end) file)) (sym at-state)
 
 -- the first line
 pub at-first : (file : List ℕ) (e : ℕ) → e ≡ 0 + upTo 10 (drop 0 file) → At file (record { number = 0; at = 0; end = e; awaits = 0; from = 0; to = 0; least = 1 })
-unfolding stateAt after
+unfolding stateAt afterReading
 at-first file e q = record {
   inside = omega arith;
   ends = q;
@@ -424,14 +424,14 @@ pub low-none : (k m : ℕ) → 8 ≤ k → lowBytes (8 - k) m ≡ []
 unfolding lowBytes
 low-none k m h = let q : 8 - k ≡ 0 = omega arith in ap (λ (n : ℕ). lowBytes n m) q
 
-gives-snoc : (xs : List (List ℕ)) (s : State) (l : List ℕ) → gives (s .awaits) (xs ++ l ∷ []) ≡ gives (s .awaits) xs ++ givesOne (after xs s .awaits) l
-unfolding gives after
+gives-snoc : (xs : List (List ℕ)) (s : State) (l : List ℕ) → gives (s .awaits) (xs ++ l ∷ []) ≡ gives (s .awaits) xs ++ givesOne (afterReading xs s .awaits) l
+unfolding gives afterReading
 gives-snoc [] s l = append-nil (givesOne (s .awaits) l)
 gives-snoc (x ∷ xs) s l =
     ap (λ (w : ℕ). givesOne (s .awaits) x ++ gives w (xs ++ l ∷ [])) (sym (on-awaits s x))
-    ∙ ap (λ (m : List ℕ). givesOne (s .awaits) x ++ m) (gives-snoc xs (onward s x) l)
-    ∙ sym (append-assoc (givesOne (s .awaits) x) (gives (onward s x .awaits) xs) (givesOne (after xs (onward s x) .awaits) l))
-    ∙ ap (λ (w : ℕ). (givesOne (s .awaits) x ++ gives w xs) ++ givesOne (after xs (onward s x) .awaits) l) (on-awaits s x)
+    ∙ ap (λ (m : List ℕ). givesOne (s .awaits) x ++ m) (gives-snoc xs (readOn s x) l)
+    ∙ sym (append-assoc (givesOne (s .awaits) x) (gives (readOn s x .awaits) xs) (givesOne (afterReading xs (readOn s x) .awaits) l))
+    ∙ ap (λ (w : ℕ). (givesOne (s .awaits) x ++ gives w xs) ++ givesOne (afterReading xs (readOn s x) .awaits) l) (on-awaits s x)
 
 pub gives-cons : (w : ℕ) (l : List ℕ) (ls : List (List ℕ)) → gives w (l ∷ ls) ≡ givesOne w l ++ gives (nextOf w) ls
 unfolding gives
@@ -471,7 +471,7 @@ half-whole (i ∷ ids) strs y h =
     ∙ ap (λ (m : List ℕ). given ids strs [] ++ m) (append-nil (packed i ++ packed y))
     ∙ sym (append-assoc (given ids strs []) (packed i) (packed y))
 
-step-gives : (s : State) (l : List ℕ) → (s .awaits ≡ 6 → 0 < length (s .ids)) → sofar (onward s l) ≡ sofar s ++ givesOne (s .awaits) l
+step-gives : (s : State) (l : List ℕ) → (s .awaits ≡ 6 → 0 < length (s .ids)) → sofar (readOn s l) ≡ sofar s ++ givesOne (s .awaits) l
 unfolding half
 step-gives s l h = ap (λ (t : State). sofar t) (step-is s l) ∙ go (eqb (s .awaits) 4) refl (eqb (s .awaits) 5) refl (eqb (s .awaits) 6) refl
   where
@@ -489,14 +489,14 @@ step-gives s l h = ap (λ (t : State). sofar t) (step-is s l) ∙ go (eqb (s .aw
         ap (λ (b : Bool). cond b (half (s .ids) (s .strs)) (given (s .ids) (s .strs) [])) (ne-eqb (suc (s .awaits)) 6 (omega arith)) ∙ sym (append-nil (given (s .ids) (s .strs) []))
 
 -- at a msgstr there is a msgid
-half-on : (s : State) (l : List ℕ) → onward s l .awaits ≡ 6 → 0 < length (onward s l .ids)
+half-on : (s : State) (l : List ℕ) → readOn s l .awaits ≡ 6 → 0 < length (readOn s l .ids)
 half-on s l e = go (eqb (s .awaits) 6) refl (sym (on-awaits s l) ∙ e)
   where
-    go : (c : Bool) → eqb (s .awaits) 6 ≡ c → cond c 3 (suc (s .awaits)) ≡ 6 → 0 < length (onward s l .ids)
+    go : (c : Bool) → eqb (s .awaits) 6 ≡ c → cond c 3 (suc (s .awaits)) ≡ 6 → 0 < length (readOn s l .ids)
     go true g f = absurd (omega arith)
     go false g f =
         let w : s .awaits ≡ 5 = omega arith in
-        let q : onward s l .ids ≡ quotedText idWord l ∷ s .ids = on-ids s l ∙ ap (λ (b : Bool). cond b (quotedText idWord l ∷ s .ids) (s .ids)) (eq-eqb (s .awaits) 5 w) in
+        let q : readOn s l .ids ≡ quotedText idWord l ∷ s .ids = on-ids s l ∙ ap (λ (b : Bool). cond b (quotedText idWord l ∷ s .ids) (s .ids)) (eq-eqb (s .awaits) 5 w) in
         let z = ap length q in
         omega arith
 
@@ -508,15 +508,15 @@ gives-good (z ∷ []) n s h e = go (eqb (s .awaits) 3 && empty z) refl e
     go : (b : Bool) → eqb (s .awaits) 3 && empty z ≡ b → isGood (cond b (good (s .ids) (s .strs)) (bad n)) ≡ true → readText (cond b (good (s .ids) (s .strs)) (bad n)) ≡ sofar s ++ (givesOne (s .awaits) z ++ [])
     go false f e = no e
     go true f e = let w : s .awaits ≡ 3 = eqb-true (s .awaits) 3 (and-left (eqb (s .awaits) 3) (empty z) f) in rw w (sym (append-nil (given (s .ids) (s .strs) [])))
-gives-good (l ∷ m ∷ ls) n s h e = go (awaited s l) e (gives-good (m ∷ ls) (suc n) (onward s l) (half-on s l))
+gives-good (l ∷ m ∷ ls) n s h e = go (awaited s l) e (gives-good (m ∷ ls) (suc n) (readOn s l) (half-on s l))
   where
-    go : (b : Bool) → isGood (cond b (readGo (m ∷ ls) (suc n) (onward s l)) (bad n)) ≡ true →
-        (isGood (readGo (m ∷ ls) (suc n) (onward s l)) ≡ true → readText (readGo (m ∷ ls) (suc n) (onward s l)) ≡ sofar (onward s l) ++ gives (onward s l .awaits) (m ∷ ls)) →
-        readText (cond b (readGo (m ∷ ls) (suc n) (onward s l)) (bad n)) ≡ sofar s ++ (givesOne (s .awaits) l ++ gives (nextOf (s .awaits)) (m ∷ ls))
+    go : (b : Bool) → isGood (cond b (readGo (m ∷ ls) (suc n) (readOn s l)) (bad n)) ≡ true →
+        (isGood (readGo (m ∷ ls) (suc n) (readOn s l)) ≡ true → readText (readGo (m ∷ ls) (suc n) (readOn s l)) ≡ sofar (readOn s l) ++ gives (readOn s l .awaits) (m ∷ ls)) →
+        readText (cond b (readGo (m ∷ ls) (suc n) (readOn s l)) (bad n)) ≡ sofar s ++ (givesOne (s .awaits) l ++ gives (nextOf (s .awaits)) (m ∷ ls))
     go false e ih = no e
     go true e ih =
         ih e
-        ∙ ap (λ (x : List ℕ). x ++ gives (onward s l .awaits) (m ∷ ls)) (step-gives s l h)
+        ∙ ap (λ (x : List ℕ). x ++ gives (readOn s l .awaits) (m ∷ ls)) (step-gives s l h)
         ∙ ap (λ (w : ℕ). (sofar s ++ givesOne (s .awaits) l) ++ gives w (m ∷ ls)) (on-awaits s l)
         ∙ append-assoc (sofar s) (givesOne (s .awaits) l) (gives (nextOf (s .awaits)) (m ∷ ls))
 
@@ -537,7 +537,7 @@ parts-some b (x ∷ l) = go (eqb x b) (partsOf b l)
     go false [] = omega arith
     go false (p ∷ ps) = omega arith
 
-read-step : (l : List ℕ) (ps : List (List ℕ)) (n : ℕ) (s : State) → 0 < length ps → readGo (l ∷ ps) n s ≡ cond (awaited s l) (readGo ps (suc n) (onward s l)) (bad n)
+read-step : (l : List ℕ) (ps : List (List ℕ)) (n : ℕ) (s : State) → 0 < length ps → readGo (l ∷ ps) n s ≡ cond (awaited s l) (readGo ps (suc n) (readOn s l)) (bad n)
 unfolding readGo
 read-step l [] n s h = absurd (omega arith)
 read-step l (m ∷ ps) n s h = refl
@@ -549,7 +549,7 @@ pub record CheckInv (file : List ℕ) (n : ℕ) (r : Line) : Type 0 where
   pub bound : n ≤ r .at
 
 pub check-start : (file : List ℕ) (r : Line) → At file r → r .number ≡ 0 → r .at ≡ 0 → CheckInv file 0 r
-unfolding readOf stateAt after gives
+unfolding readOf stateAt afterReading gives
 check-start file r v e f = record {
   stands = v;
   so-far = rw (e, f) refl;
@@ -559,14 +559,14 @@ check-start file r v e f = record {
 
 module _ {file : List ℕ} {n : ℕ} {r : Line} (v : CheckInv file n r) where
   module _ (more : r .end < length file) where
-    step-by : cond (awaited (stateAt file (r .number)) (part (r .at) (r .end) file)) (readGo (partsOf 10 (drop (r .end + 1) file)) (suc (r .number)) (onward (stateAt file (r .number)) (part (r .at) (r .end) file))) (bad (r .number)) ≡ readOf file
+    step-by : cond (awaited (stateAt file (r .number)) (part (r .at) (r .end) file)) (readGo (partsOf 10 (drop (r .end + 1) file)) (suc (r .number)) (readOn (stateAt file (r .number)) (part (r .at) (r .end) file))) (bad (r .number)) ≡ readOf file
     step-by =
         sym (read-step (part (r .at) (r .end) file) (partsOf 10 (drop (r .end + 1) file)) (r .number) (stateAt file (r .number)) (parts-some 10 (drop (r .end + 1) file)))
         ∙ ap (λ (ps : List (List ℕ)). readGo ps (r .number) (stateAt file (r .number))) (sym (parts-at 10 file (r .at) (r .end) (v .stands .inside) (v .stands .ends) more))
         ∙ v .so-far
 
-    pub check-bad : awaited (stateAt file (r .number)) (part (r .at) (r .end) file) ≡ false → strings.BadLine (r .number) ≡ verdict (readOf file)
-    check-bad e = ap (λ (b : Bool). verdict (cond b (readGo (partsOf 10 (drop (r .end + 1) file)) (suc (r .number)) (onward (stateAt file (r .number)) (part (r .at) (r .end) file))) (bad (r .number)))) (sym e) ∙ ap (λ (x : Read). verdict x) step-by
+    pub check-bad : awaited (stateAt file (r .number)) (part (r .at) (r .end) file) ≡ false → strings.BadLine (r .number) ≡ readVerdict (readOf file)
+    check-bad e = ap (λ (b : Bool). readVerdict (cond b (readGo (partsOf 10 (drop (r .end + 1) file)) (suc (r .number)) (readOn (stateAt file (r .number)) (part (r .at) (r .end) file))) (bad (r .number)))) (sym e) ∙ ap (λ (x : Read). readVerdict x) step-by
 
     module _ (good-line : awaited (stateAt file (r .number)) (part (r .at) (r .end) file) ≡ true) (m : ℕ) (l : List ℕ) (is-l : l ≡ part (r .at) (r .end) file) (e : m ≡ length (givesOne (r .awaits) l)) where
       pub check-room : n + m ≤ r .end + 1
@@ -583,13 +583,13 @@ module _ {file : List ℕ} {n : ℕ} {r : Line} (v : CheckInv file n r) where
             ap (λ (x : ℕ). readGo (partsOf 10 (drop x file)) (t .number) (stateAt file (t .number))) q
             ∙ ap (λ (x : ℕ). readGo (partsOf 10 (drop (r .end + 1) file)) x (stateAt file x)) p
             ∙ ap (λ (s : State). readGo (partsOf 10 (drop (r .end + 1) file)) (r .number + 1) s) (state-on (v .stands) more)
-            ∙ ap (λ (x : ℕ). readGo (partsOf 10 (drop (r .end + 1) file)) x (onward (stateAt file (r .number)) (part (r .at) (r .end) file))) (add-one (r .number))
-            ∙ ap (λ (b : Bool). cond b (readGo (partsOf 10 (drop (r .end + 1) file)) (suc (r .number)) (onward (stateAt file (r .number)) (part (r .at) (r .end) file))) (bad (r .number))) (sym good-line)
+            ∙ ap (λ (x : ℕ). readGo (partsOf 10 (drop (r .end + 1) file)) x (readOn (stateAt file (r .number)) (part (r .at) (r .end) file))) (add-one (r .number))
+            ∙ ap (λ (b : Bool). cond b (readGo (partsOf 10 (drop (r .end + 1) file)) (suc (r .number)) (readOn (stateAt file (r .number)) (part (r .at) (r .end) file))) (bad (r .number))) (sym good-line)
             ∙ step-by;
         many =
             let d : List (List ℕ) = v .stands .done in
             let x : List ℕ = part (r .at) (r .end) file in
-            let w : after d start .awaits ≡ r .awaits = ap (λ (s : State). s .awaits) (sym (at-state (v .stands))) ∙ sym (v .stands .awaits) in
+            let w : afterReading d start .awaits ≡ r .awaits = ap (λ (s : State). s .awaits) (sym (at-state (v .stands))) ∙ sym (v .stands .awaits) in
             let g : length (gives 0 (take (t .number) (partsOf 10 file))) ≡ length (gives 0 d ++ givesOne (r .awaits) l) =
             ap (λ (k : ℕ). length (gives 0 (take k (partsOf 10 file)))) p
             ∙ ap (λ (ls : List (List ℕ)). length (gives 0 ls)) (above-on (v .stands) more)
@@ -606,21 +606,21 @@ module _ {file : List ℕ} {n : ℕ} {r : Line} (v : CheckInv file n r) where
     unfolding readGo
     ends-by = ap (λ (ps : List (List ℕ)). readGo ps (r .number) (stateAt file (r .number))) (sym (parts-at-end 10 file (r .at) (r .end) (v .stands .inside) (v .stands .ends) last)) ∙ v .so-far
 
-    pub end-awaits : (r .awaits ≡ 3 → ⊥) → strings.BadLine (r .number) ≡ verdict (readOf file)
+    pub end-awaits : (r .awaits ≡ 3 → ⊥) → strings.BadLine (r .number) ≡ readVerdict (readOf file)
     end-awaits z =
-        ap (λ (b : Bool). verdict (cond (b && empty (part (r .at) (r .end) file)) (good (stateAt file (r .number) .ids) (stateAt file (r .number) .strs)) (bad (r .number)))) (sym (ne-eqb (stateAt file (r .number) .awaits) 3 (λ x. z (v .stands .awaits ∙ x))))
-        ∙ ap (λ (x : Read). verdict x) ends-by
+        ap (λ (b : Bool). readVerdict (cond (b && empty (part (r .at) (r .end) file)) (good (stateAt file (r .number) .ids) (stateAt file (r .number) .strs)) (bad (r .number)))) (sym (ne-eqb (stateAt file (r .number) .awaits) 3 (λ x. z (v .stands .awaits ∙ x))))
+        ∙ ap (λ (x : Read). readVerdict x) ends-by
 
     rest-length : length (part (r .at) (r .end) file) ≡ length file - r .at
     rest-length = let z = v .stands .ends in let t = length-take (r .end - r .at) (drop (r .at) file) in let d = length-drop (r .at) file in omega arith
 
-    pub end-rest : r .at < length file → strings.BadLine (r .number) ≡ verdict (readOf file)
+    pub end-rest : r .at < length file → strings.BadLine (r .number) ≡ readVerdict (readOf file)
     end-rest h =
         let k = rest-length in
         let x : List ℕ = part (r .at) (r .end) file in
         let some : length x ≡ 0 → ⊥ = λ z. omega arith in
-        ap (λ (b : Bool). verdict (cond b (good (stateAt file (r .number) .ids) (stateAt file (r .number) .strs)) (bad (r .number)))) (sym (ap (λ (b : Bool). eqb (stateAt file (r .number) .awaits) 3 && b) (empty-no x some) ∙ and-false (eqb (stateAt file (r .number) .awaits) 3)))
-        ∙ ap (λ (y : Read). verdict y) ends-by
+        ap (λ (b : Bool). readVerdict (cond b (good (stateAt file (r .number) .ids) (stateAt file (r .number) .strs)) (bad (r .number)))) (sym (ap (λ (b : Bool). eqb (stateAt file (r .number) .awaits) 3 && b) (empty-no x some) ∙ and-false (eqb (stateAt file (r .number) .awaits) 3)))
+        ∙ ap (λ (y : Read). readVerdict y) ends-by
 
     end-read : r .awaits ≡ 3 → length file ≤ r .at → good (stateAt file (r .number) .ids) (stateAt file (r .number) .strs) ≡ readOf file
     end-read e h =
@@ -631,18 +631,18 @@ module _ {file : List ℕ} {n : ℕ} {r : Line} (v : CheckInv file n r) where
         (sym (ap (λ (b : Bool). b && empty x) (eq-eqb (stateAt file (r .number) .awaits) 3 (sym (v .stands .awaits) ∙ e)) ∙ empty-yes x none))
         ∙ ends-by
 
-    pub end-good : r .awaits ≡ 3 → length file ≤ r .at → strings.Done n ≡ verdict (readOf file)
+    pub end-good : r .awaits ≡ 3 → length file ≤ r .at → strings.Done n ≡ readVerdict (readOf file)
     end-good e h =
         let d : List (List ℕ) = v .stands .done in
         let x : List ℕ = part (r .at) (r .end) file in
         let rd = end-read e h in
-        let w : after d start .awaits ≡ 3 = ap (λ (s : State). s .awaits) (sym (at-state (v .stands))) ∙ sym (v .stands .awaits) ∙ e in
+        let w : afterReading d start .awaits ≡ 3 = ap (λ (s : State). s .awaits) (sym (at-state (v .stands))) ∙ sym (v .stands .awaits) ∙ e in
         let all : partsOf 10 file ≡ d ++ x ∷ [] = v .stands .split ∙ ap (λ (ps : List (List ℕ)). d ++ ps) (parts-at-end 10 file (r .at) (r .end) (v .stands .inside) (v .stands .ends) last) in
         let g : gives 0 (partsOf 10 file) ≡ gives 0 d =
         ap (gives 0) all ∙ gives-snoc d start x ∙ ap (λ (k : ℕ). gives 0 d ++ givesOne k x) w ∙ append-nil (gives 0 d) in
         let t : readText (readOf file) ≡ gives 0 d = file-gives file (ap (λ (y : Read). isGood y) (sym rd)) ∙ g in
         let o : n ≡ length (gives 0 d) = v .many ∙ ap (λ (ls : List (List ℕ)). length (gives 0 ls)) (above (v .stands)) in
-        ap strings.Done (o ∙ ap length (sym t) ∙ ap (λ (y : Read). length (readText y)) (sym rd)) ∙ ap (λ (y : Read). verdict y) rd
+        ap strings.Done (o ∙ ap length (sym t) ∙ ap (λ (y : Read). length (readText y)) (sym rd)) ∙ ap (λ (y : Read). readVerdict y) rd
 
 -- ---- the answer
 
@@ -652,35 +652,35 @@ lengthOf (strings.BadLine n) = n
 lengthOf (strings.Short n) = n
 
 module _ (file : List ℕ) (room : ℕ) where
-  done-is : (rd : Read) (n : ℕ) → strings.Done n ≡ verdict rd → (isGood rd ≡ true) × (n ≡ length (readText rd))
+  done-is : (rd : Read) (n : ℕ) → strings.Done n ≡ readVerdict rd → (isGood rd ≡ true) × (n ≡ length (readText rd))
   unfolding stringsNumber lengthOf
   done-is (bad m) n e = let z = ap stringsNumber e in absurd (omega arith)
   done-is (good ids strs) n e = (refl, ap lengthOf e)
 
-  by-done : (rd : Read) (n : ℕ) → strings.Done n ≡ verdict rd → byRead rd room ≡ cond (ltb room n) (strings.Short n) (strings.Done n)
+  by-done : (rd : Read) (n : ℕ) → strings.Done n ≡ readVerdict rd → byRead rd room ≡ cond (ltb room n) (strings.Short n) (strings.Done n)
   unfolding stringsNumber lengthOf
   by-done (bad m) n e = let z = ap stringsNumber e in absurd (omega arith)
   by-done (good ids strs) n e = ap (λ (k : ℕ). cond (ltb room k) (strings.Short k) (strings.Done k)) (sym (ap lengthOf e))
 
-  by-bad : (rd : Read) (n : ℕ) → strings.BadLine n ≡ verdict rd → strings.BadLine n ≡ byRead rd room
+  by-bad : (rd : Read) (n : ℕ) → strings.BadLine n ≡ readVerdict rd → strings.BadLine n ≡ byRead rd room
   unfolding stringsNumber
   by-bad (bad m) n e = e
   by-bad (good ids strs) n e = let z = ap stringsNumber e in absurd (omega arith)
 
-  by-short : (rd : Read) (n : ℕ) → strings.Short n ≡ verdict rd → strings.Short n ≡ byRead rd room
+  by-short : (rd : Read) (n : ℕ) → strings.Short n ≡ readVerdict rd → strings.Short n ≡ byRead rd room
   unfolding stringsNumber
   by-short (bad m) n e = let z = ap stringsNumber e in absurd (omega arith)
   by-short (good ids strs) n e = let z = ap stringsNumber e in absurd (omega arith)
 
-  pub answer-bad : (n : ℕ) → strings.BadLine n ≡ verdict (readOf file) → strings.BadLine n ≡ readAnswer file room
+  pub answer-bad : (n : ℕ) → strings.BadLine n ≡ readVerdict (readOf file) → strings.BadLine n ≡ readAnswer file room
   unfolding readAnswer
   answer-bad n e = by-bad (readOf file) n e
 
-  pub answer-none : (n : ℕ) → strings.Short n ≡ verdict (readOf file) → strings.Short n ≡ readAnswer file room
+  pub answer-none : (n : ℕ) → strings.Short n ≡ readVerdict (readOf file) → strings.Short n ≡ readAnswer file room
   unfolding readAnswer
   answer-none n e = by-short (readOf file) n e
 
-  module _ (n : ℕ) (e : strings.Done n ≡ verdict (readOf file)) where
+  module _ (n : ℕ) (e : strings.Done n ≡ readVerdict (readOf file)) where
     pub answer-short : room < n → strings.Short n ≡ readAnswer file room
     unfolding readAnswer
     answer-short h = sym (by-done (readOf file) n e ∙ ap (λ (b : Bool). cond b (strings.Short n) (strings.Done n)) (lt-ltb room n h))
@@ -751,16 +751,16 @@ module _ {file d₀ d : List ℕ} {o i w e : ℕ} (v : GivenInv file d₀ d o i 
 
 -- before the first line
 pub ids-none : (file : List ℕ) (n : ℕ) (own : List ℕ) (k : ℕ) → own ≡ replicate n 0 → k ≡ 0 → Tells file own (stateAt file k .ids)
-unfolding stateAt after
+unfolding stateAt afterReading
 ids-none file n own k e z = rw z (tells-none file n own e)
 
 module _ {file own : List ℕ} (s : State) (l : List ℕ) where
   -- after a line that is no msgid
-  pub ids-kept : (k : ℕ) → s .awaits ≡ k → eqb k 5 ≡ false → Tells file own (s .ids) → Tells file own (onward s l .ids)
+  pub ids-kept : (k : ℕ) → s .awaits ≡ k → eqb k 5 ≡ false → Tells file own (s .ids) → Tells file own (readOn s l .ids)
   ids-kept k e n w = subst (λ (ids : List (List ℕ)). Tells file own ids) (sym (on-ids s l ∙ ap (λ (b : Bool). cond b (quotedText idWord l ∷ s .ids) (s .ids)) (ap (λ (m : ℕ). eqb m 5) e ∙ n))) w
 
   -- after a msgid
-  pub ids-more : (m : List ℕ) → m ≡ l → s .awaits ≡ 5 → Tells file own (quotedText idWord m ∷ s .ids) → Tells file own (onward s l .ids)
+  pub ids-more : (m : List ℕ) → m ≡ l → s .awaits ≡ 5 → Tells file own (quotedText idWord m ∷ s .ids) → Tells file own (readOn s l .ids)
   ids-more m q e w = subst (λ (ids : List (List ℕ)). Tells file own ids) (ap (λ (x : List ℕ). quotedText idWord x ∷ s .ids) q ∙ sym (on-ids s l ∙ ap (λ (b : Bool). cond b (quotedText idWord l ∷ s .ids) (s .ids)) (eq-eqb (s .awaits) 5 e))) w
 
   -- a msgid's text, as the code cuts it
@@ -768,5 +768,5 @@ module _ {file own : List ℕ} (s : State) (l : List ℕ) where
   ids-text m q w = subst (λ (x : List ℕ). Tells file own (decoded x 34 ∷ s .ids)) (q ∙ rest-of l 7) w
 
 -- at the next line
-pub ids-on : {file own : List ℕ} {r : Line} → At file r → r .end < length file → (n : ℕ) → n ≡ r .number + 1 → Tells file own (onward (stateAt file (r .number)) (part (r .at) (r .end) file) .ids) → Tells file own (stateAt file n .ids)
+pub ids-on : {file own : List ℕ} {r : Line} → At file r → r .end < length file → (n : ℕ) → n ≡ r .number + 1 → Tells file own (readOn (stateAt file (r .number)) (part (r .at) (r .end) file) .ids) → Tells file own (stateAt file n .ids)
 ids-on {file} {own} v h n e w = subst (λ (s : State). Tells file own (s .ids)) (sym (ap (stateAt file) e ∙ state-on v h)) w

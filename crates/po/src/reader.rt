@@ -13,16 +13,16 @@ ghost use mathlib.Core.List.{[], _∷_, _++_};
 ghost use mathlib.Core.Bool.{Bool, true, false, cond, _||_, _&&_};
 ghost use Prim.Native.Nat.{ℕ, suc, _+_, _≤_, _<_, _^_};
 ghost use lib.ListN.{length, drop, take, getD};
-ghost use Rattle.lines.specs.Lf.{part, same, prefixed, upTo, partsOf};
+ghost use Rattle.lines.specs.Lf.{part, same, prefixed, upTo, partsOf, lowBytes};
 ghost use Rattle.lines.specs.Inner.Out.{Wrote};
 ghost use Rattle.text.specs.Utf8Form.{utf8Of};
 ghost use Rattle.names.specs.Names.{decimal, readNumber};
 ghost use Rattle.po.specs.Found.{decoded, known, empty};
 ghost use Rattle.po.specs.Form.{idWord, escape};
 ghost use Rattle.po.specs.Name.{isFileName};
-ghost use Rattle.po.specs.Reader.{isValid, isQuotedLine, quotedText, colon, valueOf, nameIn, lineNumber, isId, awaited, onward, lowBytes, packed, readOf};
+ghost use Rattle.po.specs.Reader.{isValid, isQuotedLine, quotedText, colon, valueOf, nameIn, lineNumber, isId, awaited, readOn, packed, readOf};
 ghost use Rattle.po.specs.Inner.Index.{Tells};
-ghost use Rattle.po.specs.Inner.ReadWalk.{formed, isReference, follows, nextOf, stateAt, givesOne, gives, sameId, At, verdict};
+ghost use Rattle.po.specs.Inner.ReadWalk.{formed, isReference, follows, nextOf, stateAt, givesOne, gives, sameId, At, readVerdict};
 
 const QUOTE: u8 = 34;
 
@@ -267,7 +267,7 @@ fn is_awaited(file: &[u8], r: Line, own: &mut [usize]) -> bool
     requires { ⌜ At (now file) r ⌝ }
     requires { ⌜ Tells (now file) (now own) (stateAt (now file) (r .number) .ids) ⌝ }
     ensures { λ b. ⌜ b ≡ awaited (stateAt (now (file .entry)) (r .number)) (part (r .at) (r .end) (now (file .entry))) ⌝ }
-    ensures { λ b. ⌜ (b ≡ true → Tells (now (file .entry)) (now (own .exit)) (onward (stateAt (now (file .entry)) (r .number)) (part (r .at) (r .end) (now (file .entry))) .ids)) ⌝ }
+    ensures { λ b. ⌜ (b ≡ true → Tells (now (file .entry)) (now (own .exit)) (readOn (stateAt (now (file .entry)) (r .number)) (part (r .at) (r .end) (now (file .entry))) .ids)) ⌝ }
 {
     let l = lines::cut(file, r.at, r.end);
     let w = r.awaits;
@@ -369,7 +369,7 @@ fn given_len(w: usize, l: &[u8]) -> usize
 
 // How much a file gives, or its first line that is missing or not of our form.
 pub fn check_file(file: &[u8], own: &mut [usize]) -> Strings
-    ensures { λ r. ⌜ r ≡ verdict (readOf (now (file .entry))) ⌝ }
+    ensures { λ r. ⌜ r ≡ readVerdict (readOf (now (file .entry))) ⌝ }
 {
     slots::wipe(own);
     let mut r = first_line(file);

@@ -16,7 +16,7 @@ use Rattle.text.specs.Utf8Form.{utf8Of}
 use Rattle.text.specs.declared.Utf8.the-variants.{Valid}
 use Rattle.po.specs.declared.Flaw.{Flaw}
 use Rattle.po.specs.declared.Flaw.the-variants as flaw
-use Rattle.po.specs.Found.{isClosed, odds, Literal, literalsGo, literalsOf, literals, literalText, Entry, known, leftOut, firsts, entries}
+use Rattle.po.specs.Found.{litClosed, odds, Literal, literalsGo, literalsOf, literals, literalText, Entry, known, leftOut, firsts, entries}
 use Rattle.po.specs.Form.{escaped}
 use Rattle.po.specs.Answers.{flawIn, orElse, firstFlaw}
 use Rattle.po.proofs.IndexLaws.{known-last}
@@ -40,13 +40,13 @@ unfolding quoteLen
 quote-end [] = refl
 quote-end (y ∷ l) = refl
 
-closed-other : (x : ℕ) (l : List ℕ) (q : ℕ) → eqb x 92 ≡ false → eqb x q ≡ false → isClosed (x ∷ l) q ≡ isClosed l q
-unfolding isClosed
+closed-other : (x : ℕ) (l : List ℕ) (q : ℕ) → eqb x 92 ≡ false → eqb x q ≡ false → litClosed (x ∷ l) q ≡ litClosed l q
+unfolding litClosed
 closed-other x [] q e f = f
 closed-other x (y ∷ l) q e f = rw (e, f) refl
 
-closed-end : (l : List ℕ) → isClosed (34 ∷ l) 34 ≡ true
-unfolding isClosed
+closed-end : (l : List ℕ) → litClosed (34 ∷ l) 34 ≡ true
+unfolding litClosed
 closed-end [] = refl
 closed-end (y ∷ l) = refl
 
@@ -74,13 +74,13 @@ quote-escaped (b ∷ bs) l = go (eqb b 10) (eqb b 9) (eqb b 34) refl (eqb b 92) 
     go false false false f true g ih = ap (λ (n : ℕ). suc (suc n)) ih
     go false false false f false g ih = quote-other b (escaped bs ++ 34 ∷ l) 34 g f ∙ ap suc ih
 
-closed-escaped : (x l : List ℕ) → isClosed (escaped x ++ 34 ∷ l) 34 ≡ true
-unfolding escaped isClosed
+closed-escaped : (x l : List ℕ) → litClosed (escaped x ++ 34 ∷ l) 34 ≡ true
+unfolding escaped litClosed
 closed-escaped [] l = closed-end l
 closed-escaped (b ∷ bs) l = go (eqb b 10) (eqb b 9) (eqb b 34) refl (eqb b 92) refl (closed-escaped bs l)
   where
-    go : (p q s : Bool) → eqb b 34 ≡ s → (u : Bool) → eqb b 92 ≡ u → isClosed (escaped bs ++ 34 ∷ l) 34 ≡ true →
-        isClosed ((cond p (92 ∷ 110 ∷ []) (cond q (92 ∷ 116 ∷ []) (cond s (92 ∷ 34 ∷ []) (cond u (92 ∷ 92 ∷ []) (b ∷ [])))) ++ escaped bs) ++ 34 ∷ l) 34 ≡ true
+    go : (p q s : Bool) → eqb b 34 ≡ s → (u : Bool) → eqb b 92 ≡ u → litClosed (escaped bs ++ 34 ∷ l) 34 ≡ true →
+        litClosed ((cond p (92 ∷ 110 ∷ []) (cond q (92 ∷ 116 ∷ []) (cond s (92 ∷ 34 ∷ []) (cond u (92 ∷ 92 ∷ []) (b ∷ [])))) ++ escaped bs) ++ 34 ∷ l) 34 ≡ true
     go true q s f u g ih = ih
     go false true s f u g ih = ih
     go false false true f u g ih = ih

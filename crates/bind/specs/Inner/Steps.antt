@@ -16,7 +16,7 @@ use Rattle.decls.specs.Inner.Print.{kept, declText}
 use Rattle.reading.specs.Reading.{Reading}
 use Rattle.reading.specs.Uses.{lineStores, lineUses, usedIn}
 use Rattle.bind.specs.declared.Site.{Site}
-use Rattle.bind.specs.Bind.{Spot, spots, untilHead, declCount, storeCount, markAll, marked, piecesOf, aboveIn, promoted}
+use Rattle.bind.specs.Bind.{BlockLine, blockLines, untilHead, declCount, storeCount, markAll, marked, piecesOf, aboveIn, promoted}
 
 -- ---- a line and its region
 
@@ -110,7 +110,7 @@ siteMarks f g l m = cond (givesUp f l) (notedAll f g (partsOf (code ",") (bodyOf
 -- ---- marks
 
 -- which lines are marked when the walk comes to them
-unfoldable pub marksGo : List Spot → List (List ℕ) → List Bool → List Bool
+unfoldable pub marksGo : List BlockLine → List (List ℕ) → List Bool → List Bool
 unfolding markAll piecesOf untilHead
 marksGo [] above ms = []
 marksGo (d ∷ ss) above ms =
@@ -118,15 +118,15 @@ marksGo (d ∷ ss) above ms =
 
 -- of all lines: which of them the pass promotes
 unfoldable pub bindMarks : Reading → List (List ℕ) → List Bool
-unfolding marksGo spots
-bindMarks R ls = marksGo (spots R ls) [] []
+unfolding marksGo blockLines
+bindMarks R ls = marksGo (blockLines R ls) [] []
 
 -- ---- the tables
 
 -- the entries of the two tables are those of the lines
-pub data Rows : List Spot → List ℕ → List ℕ → Type 0 where
+pub data Rows : List BlockLine → List ℕ → List ℕ → Type 0 where
   none : {bs ss : List ℕ} → Rows [] bs ss
-  row : {d : Spot} {ds : List Spot} {bs ss : List ℕ} → Rows ds bs ss → Rows (d ∷ ds) (d .block ∷ bs) (cond (d .starts) 1 0 ∷ ss)
+  row : {d : BlockLine} {ds : List BlockLine} {bs ss : List ℕ} → Rows ds bs ss → Rows (d ∷ ds) (d .block ∷ bs) (cond (d .starts) 1 0 ∷ ss)
 
 -- the tables reach as far as the region of a line
 abbrev pub Reach : List ℕ → Site → List ℕ → List ℕ → Type 0

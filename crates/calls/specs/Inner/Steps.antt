@@ -39,8 +39,8 @@ absorbStep R cur v value below taken owner =
     (putBy (leavesOf R) (contextOf cur v) cur v value) end
 
 -- a value in parentheses
-abbrev pub wrapped : List ℕ → List ℕ
-wrapped v = code "(" ∷ v ++ ascii ")"
+abbrev pub wrappedCall : List ℕ → List ℕ
+wrappedCall v = code "(" ∷ v ++ ascii ")"
 
 -- a step in a lent buffer d, which is d′ then and keeps its length: the line that it makes stands at the front of it, or there is none
 pub data PutAs (d : List ℕ) : Step → List ℕ → Made → Type 0 where

@@ -94,7 +94,7 @@ pub record Peaked (t : List ℕ) (n : ℕ) (owner owner′ stack cur : List ℕ)
   pub sized : size ≤ length cur
 
 -- line n of t stands from i up to e
-pub record Spot (t : List ℕ) (n i e : ℕ) : Type 0 where
+pub record LineAt (t : List ℕ) (n i e : ℕ) : Type 0 where
   pub inside : i < length t
   pub above : take i t ≡ unlines (take n (linesOf t))
   pub here : linesOf (drop i t) ≡ drop n (linesOf t)
@@ -103,7 +103,7 @@ pub record Spot (t : List ℕ) (n i e : ℕ) : Type 0 where
 -- all is ready for line n, which stands from i up to e: the tables, and room in the buffers
 pub record Ready (t : List ℕ) (n i e : ℕ) (blocks starts owner stack : List ℕ) (o : ℕ) (cur next : List ℕ) : Type 0 where
   pub keeps : Keeps t n (rowsAt t n) owner stack o
-  pub spot : Spot t n i e
+  pub spot : LineAt t n i e
   pub placed : Placed t blocks starts
   pub many : n < length owner
   pub low : o ≤ i
@@ -112,7 +112,7 @@ pub record Ready (t : List ℕ) (n i e : ℕ) (blocks starts owner stack : List 
   pub next-room : length t ≤ length next
 
 -- after line n: the tables keep one row more, and the stack has grown by no more than the line and its LF
-pub record Turned (t : List ℕ) (n : ℕ) (owner owner′ stack : List ℕ) (o r : ℕ) : Type 0 where
+pub record TurnedLine (t : List ℕ) (n : ℕ) (owner owner′ stack : List ℕ) (o r : ℕ) : Type 0 where
   pub keeps : Keeps t (suc n) (rowsAt t (suc n)) owner′ stack r
   pub beyond : drop (suc n) owner′ ≡ drop (suc n) owner
   pub room : r ≤ o + length (lineAt t n) + 1

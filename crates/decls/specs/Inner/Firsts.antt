@@ -13,8 +13,8 @@ firstBy f [] = 0
 firstBy f (l ∷ ls) = cond (f l) (suc (length ls)) (firstBy f ls)
 
 -- of the first line that reads register v
-abbrev pub readFrom : ℕ → List (List ℕ) → ℕ
-readFrom v ls = firstBy (λ (l : List ℕ). ltb 0 (lineReads v l)) ls
+abbrev pub readBelow : ℕ → List (List ℕ) → ℕ
+readBelow v ls = firstBy (λ (l : List ℕ). ltb 0 (lineReads v l)) ls
 
 -- of the first line that stores it
 abbrev pub storeFrom : ℕ → List (List ℕ) → ℕ

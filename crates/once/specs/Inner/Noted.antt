@@ -19,7 +19,7 @@ use Rattle.parse.specs.declared.Line.the-variants as line
 use Rattle.place.specs.Region.{isHeader, region, regionAt}
 use Rattle.reading.specs.Uses.{lineReads, lineStores}
 use Rattle.slots.specs.Inner.Slots.{slotOf, entryOf, withEntry}
-use Rattle.decls.specs.Inner.Firsts.{firstBy, readFrom}
+use Rattle.decls.specs.Inner.Firsts.{firstBy, readBelow}
 use Rattle.decls.specs.Inner.Seen.{markName}
 use Rattle.once.specs.Scratch.{liveBelow}
 use Rattle.once.specs.Once.{deadBy, readCount, laterRead}
@@ -29,7 +29,7 @@ use Rattle.once.specs.Inner.Tables.{nextIn}
 unfoldable pub farFrom : ℕ → List (List ℕ) → ℕ
 unfolding firstBy
 farFrom v [] = 0
-farFrom v (l ∷ ls) = cond (ltb 0 (lineReads v l)) (cond (ltb 1 (lineReads v l)) (suc (length ls)) (readFrom v ls)) (farFrom v ls)
+farFrom v (l ∷ ls) = cond (ltb 0 (lineReads v l)) (cond (ltb 1 (lineReads v l)) (suc (length ls)) (readBelow v ls)) (farFrom v ls)
 
 -- ---- what a note says of a line, and of what the lines below do with the register that it stores: nothing; a declaration; no store;
 abbrev pub noteNone : ℕ

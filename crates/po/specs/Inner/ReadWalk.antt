@@ -14,7 +14,7 @@ use Rattle.po.specs.declared.Strings.the-variants as strings
 use Rattle.po.specs.Found.{decoded, empty}
 use Rattle.po.specs.Form.{idWord, strWord, refLine, escaped}
 use Rattle.po.specs.Name.{isFileName}
-use Rattle.po.specs.Reader.{State, start, Read, bad, good, quotedText, nameIn, lineNumber, onward, packed, given}
+use Rattle.po.specs.Reader.{State, start, Read, bad, good, quotedText, nameIn, lineNumber, readOn, packed, given}
 
 -- what follows a place is a text as it is written, and its closing quote
 unfoldable pub formed : List ℕ → Bool
@@ -35,15 +35,15 @@ abbrev pub nextOf : ℕ → ℕ
 nextOf w = cond (eqb w 6) 3 (suc w)
 
 -- after lines
-unfoldable pub after : List (List ℕ) → State → State
-unfolding onward
-after [] s = s
-after (l ∷ ls) s = after ls (onward s l)
+unfoldable pub afterReading : List (List ℕ) → State → State
+unfolding readOn
+afterReading [] s = s
+afterReading (l ∷ ls) s = afterReading ls (readOn s l)
 
 -- after the first k lines of a file
 unfoldable pub stateAt : List ℕ → ℕ → State
-unfolding after
-stateAt file k = after (take k (partsOf (code "\n") file)) start
+unfolding afterReading
+stateAt file k = afterReading (take k (partsOf (code "\n") file)) start
 
 -- a line that is awaited as w is a msgid of the text x
 abbrev pub sameId : ℕ → List ℕ → List ℕ → Bool
@@ -83,6 +83,6 @@ isGood (bad n) = false
 isGood (good ids strs) = true
 
 -- how much is given, or the line
-abbrev pub verdict : Read → Strings
-verdict (bad n) = strings.BadLine n
-verdict (good ids strs) = strings.Done (length (given ids strs []))
+abbrev pub readVerdict : Read → Strings
+readVerdict (bad n) = strings.BadLine n
+readVerdict (good ids strs) = strings.Done (length (given ids strs []))

@@ -3,15 +3,15 @@ use Prim.Native.Nat.{ℕ}
 use Rattle.pruned.specs.declared.Judged.{Judged}
 use Rattle.pruned.specs.declared.Judged.the-variants.{Accepted, TooLong, ShortWork, NotUtf8, TooManyLines, Crowded, PrunedTooLong, PrunedNotUtf8, PrunedTooManyLines, PrunedCrowded, NotAccepted}
 
-unfoldable pub placeOf : Judged → ℕ
-placeOf Accepted = 0
-placeOf (TooLong n) = n
-placeOf ShortWork = 0
-placeOf (NotUtf8 i) = i
-placeOf (TooManyLines n) = n
-placeOf (Crowded n) = n
-placeOf (PrunedTooLong n) = n
-placeOf (PrunedNotUtf8 i) = i
-placeOf (PrunedTooManyLines n) = n
-placeOf (PrunedCrowded n) = n
-placeOf (NotAccepted n) = n
+unfoldable pub judgedPlace : Judged → ℕ
+judgedPlace Accepted = 0
+judgedPlace (TooLong n) = n
+judgedPlace ShortWork = 0
+judgedPlace (NotUtf8 i) = i
+judgedPlace (TooManyLines n) = n
+judgedPlace (Crowded n) = n
+judgedPlace (PrunedTooLong n) = n
+judgedPlace (PrunedNotUtf8 i) = i
+judgedPlace (PrunedTooManyLines n) = n
+judgedPlace (PrunedCrowded n) = n
+judgedPlace (NotAccepted n) = n

@@ -2,9 +2,9 @@ use Prim.Native.Nat.{ℕ}
 use native.Mathlib.Omega.{arith}
 use mathlib.Core.Path.{ap, sym}
 use lib.ListN.{length}
+use Rattle.lines.specs.Lf.{lowBytes}
 use Rattle.lines.proofs.OutLaws.{wrote-then, wrote-as, wrote-length}
 use Rattle.po.specs.Found.{decoded}
-use Rattle.po.specs.Reader.{lowBytes}
 use Rattle.po.proofs.StateLaws.{packed-length, low-length}
 use borrow.Author.Needs.{needs}
 use Rattle.po.proofs.reader.put_packed.Statement.{statement}

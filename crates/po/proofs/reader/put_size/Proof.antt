@@ -2,8 +2,8 @@ use Prim.Native.Nat.{_-_, _+_, _≤_}
 use native.Mathlib.Omega.{arith}
 use mathlib.Core.Path.{_≡_}
 use lib.ListN.{length}
+use Rattle.lines.specs.Lf.{lowBytes}
 use Rattle.lines.proofs.OutLaws.{Writing, writing-start, writing-as, writing-length, writing-room, writing-put, writing-end}
-use Rattle.po.specs.Reader.{lowBytes}
 use Rattle.po.proofs.StateLaws.{low-length, low-on, low-none}
 use Rattle.po.proofs.reader.put_size.Statement.{statement}
 use Rattle.po.proofs.reader.put_size.Tie as tie
