@@ -53,6 +53,9 @@ wipe-fixed = fixed lines.wipe.Reads.Learnt (λ κs a x y l m. (wrote-once l m .0
 pub wipe-numbers-fixed : Determined lines.wipe_numbers.ended (λ κs z. z) lines.wipe_numbers.Reads.ensures
 wipe-numbers-fixed = fixed lines.wipe_numbers.Reads.Learnt (λ κs a x y l m. (l ∙ sym m, refl))
 
+pub wipe-words-fixed : Determined lines.wipe_words.ended (λ κs z. z) lines.wipe_words.Reads.ensures
+wipe-words-fixed = fixed lines.wipe_words.Reads.Learnt (λ κs a x y l m. (l ∙ sym m, refl))
+
 pub ends-lf-fixed : Determined lines.ends_lf.ended (λ κs z. z) lines.ends_lf.Reads.ensures
 ends-lf-fixed = fixed lines.ends_lf.Reads.Learnt (λ κs a x y l m. l ∙ sym m)
 

@@ -379,14 +379,14 @@ module _ (F : Shape) (i : ℕ) (s : List ℕ) (g : Good F i s) (b : bytes s ≡ 
   record-fits = and-both (le-leb i (goneOf F) (omega (arith, line-under))) (fits-by (fateIn F s) (outIn F s) out-under (g .agrees))
 
 -- what a file says, taken apart
-unsay : {us vs : List Went} → says us ≡ says vs → us ≡ vs
+pub unsay : {us vs : List Went} → says us ≡ says vs → us ≡ vs
 unsay {us} {vs} h = ap out h
   where
     out : Said → List Went
     out (says ws) = ws
     out (wrong c j) = []
 
-never : {A : Type 0} {c j : ℕ} {ws : List Went} → wrong c j ≡ says ws → A
+pub never : {A : Type 0} {c j : ℕ} {ws : List Went} → wrong c j ≡ says ws → A
 never h = no (ap out h)
   where
     out : Said → Bool

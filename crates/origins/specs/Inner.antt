@@ -1,3 +1,4 @@
+pub mod Fates
 pub mod Codes
 pub mod Written
 pub mod Thin

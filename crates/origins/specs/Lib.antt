@@ -1,4 +1,3 @@
-pub mod Fates
 pub mod Form
 pub mod Read
 pub mod Answers

@@ -20,7 +20,7 @@ use Rattle.origins.specs.declared.Form.the-variants as form
 use Rattle.origins.specs.Form.{Shape, formShape, goneOf, sizeOf, recordBytes, recordsFrom, fileOf}
 use Rattle.origins.specs.Read.{lineIn, fateIn, outIn, faultIn, wentIn, Said, says, wrong, saidBy, readFrom, readFile}
 use Rattle.origins.specs.Answers.{isIn, behindFrom, behind, roomedLines, linesBy, linesFor, fitsOut, fits, fitsFrom, unfit, turnBy, turn}
-use Rattle.origins.proofs.RoundTrip.{Good, good-of, record-length, file-length}
+use Rattle.origins.proofs.RoundTrip.{Good, good-of, record-length, file-length, unsay, never}
 use Rattle.reader.specs.declared.Reply.{Reply}
 use Rattle.reader.specs.declared.Reply.the-variants.{Fine, Cut, WrongMark, OutOfOrder, UnknownFate, Disagree, Unfit, Short, NoRoom}
 use Rattle.reader.specs.Replies.{replyNumber, replyPlace, formIn, refusal, checkReply, linesReply, linesAfter, turnedReply, turnedAfter, wentsFrom, wentsIn}
@@ -380,20 +380,6 @@ unfolding wentsIn
 record-away F s i z e h = sym (get-past F i (length s) s (subst (λ (y : ℕ). length s < y * i + y) e h))
 
 -- ---- what the check says of the whole records
-
-unsay : {us vs : List Went} → says us ≡ says vs → us ≡ vs
-unsay {us} {vs} h = ap out h
-  where
-    out : Said → List Went
-    out (says ws) = ws
-    out (wrong c j) = []
-
-never : {A : Type 0} {c j : ℕ} {ws : List Went} → wrong c j ≡ says ws → A
-never h = no (ap out h)
-  where
-    out : Said → Bool
-    out (says ws) = true
-    out (wrong c j) = false
 
 module _ (F : Shape) (n i : ℕ) (s : List ℕ) (ws : List Went) (again : (vs : List Went) → readFrom F n (suc i) (drop (sizeOf F) s) ≡ says vs → wentsFrom F n (drop (sizeOf F) s) ≡ vs) where
   said-more : (r : Said) → readFrom F n (suc i) (drop (sizeOf F) s) ≡ r → Good F i s → saidBy 0 i (wentIn F s) r ≡ says ws → wentsFrom F (suc n) s ≡ ws
