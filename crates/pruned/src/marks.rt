@@ -39,12 +39,12 @@ fn digits(t: &[u8]) -> &[u8]
     lines::cut(y, names::skip_zeros(y), y.len())
 }
 
-// What tells a name from others, by its digits, with which a text begins, up to `,` or `;`: a number from 2 on.
+// What tells a name from others, by its digits, with which a text begins, up to `,` or `;`: a number from 2 on. No name has that of no digits.
 pub fn tag_of(d: &[u8]) -> u8
     ensures { λ r. ⌜ r ≡ tagOf (now (d .entry)) ⌝ }
 {
     let s = lines::cut(d, 0, TAGGED);
-    let mut h = 0usize;
+    let mut h = TAGS;
     let mut i = 0;
     while i < s.len() {
         if (s[i] == b',') | (s[i] == b';') {

@@ -34,10 +34,10 @@ unfoldable pub tagGo : List ℕ → ℕ → ℕ
 tagGo [] h = h
 tagGo (x ∷ d) h = cond (isStop x) h (tagGo d ((h * 10 + x % 16) % 251))
 
--- the tag of the digits of a name, with which a text begins: a number from 2 on, by the first twenty
+-- the tag of the digits of a name, with which a text begins: a number from 2 on, by the first twenty; 253, which no name has, where there is none
 unfoldable pub tagOf : List ℕ → ℕ
 unfolding tagGo
-tagOf d = tagGo (take 20 d) 0 + 2
+tagOf d = tagGo (take 20 d) 251 + 2
 
 -- the digits of a name as it is printed
 abbrev pub digitsOf : List ℕ → List ℕ
