@@ -21,7 +21,7 @@ BLOCKS = 16384  # the stated size of the work buffer u, in numbers of 32 bits
 TEXT = 16384  # the most bytes of a text
 LINES = 1024  # the most lines of a text
 BRACKETS = 64  # the most bytes '[' of a line
-STACK = 204800  # bytes of stack that are enough for a call, as far as it was measured
+STACK = 131072  # bytes of stack that are enough for a call, as far as it was measured
 
 # The modes: how passes 1, 2 and 3 judge a value.
 (PLAIN, STRICT) = range(2)

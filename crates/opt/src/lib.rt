@@ -22,8 +22,8 @@ const LINES: usize = limits::SMALL_LINES;
 // for each of the numbers below this,
 const LOW: usize = 1024;
 
-// and for so many others.
-const OWNERS: usize = 1024;
+// and for so many others, a prime, so that numbers with a common step do not meet.
+const OWNERS: usize = 719;
 
 // The entries of a table over registers or phis.
 const PLACES: usize = LOW + OWNERS;
