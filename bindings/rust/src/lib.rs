@@ -30,7 +30,7 @@ pub const LINES: usize = 1_024;
 /// The most bytes `[` of a line.
 pub const BRACKETS: usize = 64;
 /// Bytes of stack that are enough for a call, as far as it was measured.
-pub const STACK: usize = 204_800;
+pub const STACK: usize = 131_072;
 
 /// How passes 1, 2 and 3 judge a value; the others do the same in each mode.
 #[derive(Clone, Copy, Debug, Default, PartialEq, Eq)]

@@ -23,10 +23,13 @@ const LINES: usize = limits::SMALL_LINES;
 const LOW: usize = 1024;
 
 // and for so many others, a prime, so that numbers with a common step do not meet.
-const OWNERS: usize = 719;
+const OWNERS: usize = 641;
 
-// The entries of a table over registers or phis.
+// The entries of a table over registers or phis,
 const PLACES: usize = LOW + OWNERS;
+
+// and of one that rebuild_calls keeps two notes a line in.
+const NOTES: usize = 2 * LINES;
 
 // Runs the passes of a task over a text, in the front of longer work buffers.
 fn run(
@@ -184,9 +187,9 @@ fn tidy_small(
     let mut f = [0u8; PLACES];
     let mut g = [0u8; PLACES];
     let mut h = [0u8; LINES];
-    let mut v = [0u32; PLACES];
-    let mut w = [0u32; PLACES];
-    let mut x = [0u32; PLACES];
+    let mut v = [0u32; NOTES];
+    let mut w = [0u32; NOTES];
+    let mut x = [0u32; NOTES];
     let mut p = [0usize; LINES];
     let mut q = [0usize; LINES];
     let mut r = [0usize; PLACES];

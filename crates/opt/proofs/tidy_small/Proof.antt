@@ -44,7 +44,7 @@ slice-aggregate-tidy-11 : tie.Need-slice-aggregate-tidy-11
 slice-aggregate-tidy-11 c = search needs
 
 tidy-requires : tie.Need-tidy-requires
-tidy-requires c κs = rw (c .before .before .before .before .before .before .before .before .before .before .before .before .before .before .before .before .before .before .task .ensures) (sane-small, record { f-lines = table 1743 (omega arith); g-lines = table 1743 (omega arith); p-lines = table 1024 (omega arith); q-lines = table 1024 (omega arith); r-lines = table 1743 (omega arith); w-as-v = refl; w-as-x = refl })
+tidy-requires c κs = rw (c .before .before .before .before .before .before .before .before .before .before .before .before .before .before .before .before .before .before .task .ensures) (sane-small, record { f-lines = table 1665 (omega arith); g-lines = table 1665 (omega arith); p-lines = table 1024 (omega arith); q-lines = table 1024 (omega arith); r-lines = table 1665 (omega arith); w-as-v = refl; w-as-x = refl })
 
 same-length : tie.Need-same-length
 same-length c = c .before .before .before .before .before .before .before .before .before .before .before .before .before .before .before .before .before .before .before .before .before .before .before .before .before .tidy .kept .1 .1 .0
