@@ -1,14 +1,38 @@
--- Requests 7, 8 and 9 on small cases, computed. Assumes nothing.
+-- Requests 1, 7, 8 and 9 on small cases, computed. Assumes nothing.
 use Prim.Native.Nat.{ℕ}
 use mathlib.Core.Path.{_≡_, refl}
 use mathlib.Core.List.{List, [], _∷_, _++_}
 use Rattle.lines.specs.Ascii.{ascii}
+use Rattle.lines.specs.Acts.{Act, keep, become, into, gone}
+use Rattle.lines.specs.Lf.{same}
 use Rattle.origins.specs.declared.Went.{Went}
 use Rattle.origins.specs.declared.Went.the-variants.{Equal, Changed, Inside, Away}
 use Rattle.origins.specs.declared.Form.the-variants.{Ol, Om}
+use Rattle.origins.specs.Fates.{at, held, lost, fatesOf, follow, wentsOf}
 use Rattle.origins.specs.Form.{Shape, shapeOf, goneOf, sizeOf, fileOf}
 use Rattle.origins.specs.Read.{fromLow, readFile, says, wrong}
 use Rattle.origins.specs.Answers.{linesFor, found, refused, turn, turned, denied}
+
+-- ---- where lines go
+
+-- a pass: line 0 is gone; line 1 goes into line 2, which goes into line 3; line 4 goes into one that is gone
+abbrev pub acts : List Act
+acts = gone ∷ into 1 ∷ into 1 ∷ become (ascii "A") ∷ into 1 ∷ gone ∷ keep ∷ []
+
+pub one-pass : fatesOf acts ≡ lost ∷ held 0 ∷ held 0 ∷ at 0 ∷ lost ∷ lost ∷ at 1 ∷ []
+unfolding fatesOf
+one-pass = refl
+
+-- then a pass that takes the first of the two lines into the second, and one that drops what is left
+pub two-passes : follow (fatesOf acts) (fatesOf (into 1 ∷ keep ∷ [])) ≡ lost ∷ held 0 ∷ held 0 ∷ held 0 ∷ lost ∷ lost ∷ at 0 ∷ []
+unfolding fatesOf follow
+two-passes = refl
+
+pub holder-goes : follow (follow (fatesOf acts) (fatesOf (into 1 ∷ keep ∷ []))) (fatesOf (gone ∷ [])) ≡ lost ∷ lost ∷ lost ∷ lost ∷ lost ∷ lost ∷ lost ∷ []
+unfolding fatesOf follow
+holder-goes = refl
+
+-- ---- records
 
 abbrev pub ol : Shape
 ol = shapeOf Ol
@@ -26,6 +50,11 @@ sizes = (refl, refl)
 -- the records of four lines
 abbrev pub said : List Went
 said = Equal 0 ∷ Inside 1 ∷ Changed 1 ∷ Away ∷ []
+
+-- that is what is said where `A` stays, `x` is taken into the second line that comes out, `B` becomes it, and `y` is lost
+pub is-said : wentsOf (ascii "A" ∷ ascii "C" ∷ []) (ascii "A" ∷ ascii "x" ∷ ascii "B" ∷ ascii "y" ∷ []) (at 0 ∷ held 1 ∷ at 1 ∷ lost ∷ []) ≡ said
+unfolding wentsOf same
+is-said = refl
 
 -- their file: OL, and OM
 abbrev pub old : List ℕ

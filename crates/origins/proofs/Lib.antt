@@ -1,5 +1,14 @@
+pub mod FateLaws
+pub mod CodeLaws
+pub mod TableLaws
+pub mod Notes
 pub mod RoundTrip
+pub mod Tails
 pub mod Turns
 pub mod Behind
+pub mod InStep
 pub mod Puts
+pub mod RawLines
+pub mod Walks
+pub mod Thins
 pub mod Examples

@@ -1,3 +1,5 @@
+pub mod Fates
 pub mod Form
 pub mod Read
 pub mod Answers
+pub mod Inner

@@ -1,0 +1,81 @@
+-- A pass that writes its lines one by one notes the moves of its acts: by where it wrote. Assumes nothing.
+use Prim.Native.Nat.{ℕ, zero, suc, _+_, _≤_, _<_}
+use mathlib.Core.Path.{_≡_, refl, sym, ap, subst, _∙_}
+use mathlib.Core.Bool.{Bool, true, false}
+use mathlib.Core.List.{List, [], _∷_, _++_}
+use native.Mathlib.Omega.{arith}
+use borrow.Author.Tests.{eq-eqb, ne-eqb}
+use native.Mathlib.Nat.{add-zero}
+use native.Mathlib.Numerals.{add-one}
+use lib.ListN.{length, set, length-append, replicate, length-map}
+use Rattle.lines.specs.Acts.{Act, keep, become, into, gone, act}
+use Rattle.lines.specs.Lf.{unlines, all, linesOf, countOf}
+use Rattle.lines.specs.Inner.Out.{Wrote}
+use Rattle.lines.specs.Steps.{dropCr, splitLines}
+use Rattle.lines.proofs.Tests.{no}
+use Rattle.lines.proofs.ActLaws.{keeps}
+use Rattle.lines.proofs.OutLaws.{wrote-as, wrote-nil, wrote-more}
+use Rattle.lines.proofs.Counts.{drop-counts}
+use Rattle.origins.specs.Inner.Codes.{moveOf, movesOf, noteOf}
+
+-- a line stays, becomes another or is gone
+abbrev pub plainly : Act → Bool
+plainly keep = true
+plainly (become x) = true
+plainly (into n) = false
+plainly gone = true
+
+-- what is noted of a line that was written is its move
+pub note-act : (a : Act) (l d d′ : List ℕ) (o p : ℕ) → plainly a ≡ true → Wrote d o (unlines (act a l)) d′ p → noteOf o p ≡ moveOf a
+unfolding moveOf act unlines
+note-act keep l d d′ o p h w = rw (ne-eqb o p (omega (arith, w .place, length-append l (10 ∷ []))))
+note-act (become x) l d d′ o p h w = rw (ne-eqb o p (omega (arith, w .place, length-append x (10 ∷ []))))
+note-act (into n) l d d′ o p h w = no h
+note-act gone l d d′ o p h w = rw (eq-eqb o p (omega (arith, w .place)))
+
+pub moves-length : (acts : List Act) → length (movesOf acts) ≡ length acts
+unfolding movesOf
+moves-length [] = refl
+moves-length (a ∷ more) = ap suc (moves-length more)
+
+-- lines that all stay
+pub moves-stay : (acts : List Act) → all keeps acts ≡ true → movesOf acts ≡ replicate (length acts) 0
+unfolding movesOf moveOf
+moves-stay [] h = refl
+moves-stay (keep ∷ more) h = ap (λ (r : List ℕ). 0 ∷ r) (moves-stay more h)
+moves-stay (become x ∷ more) h = no h
+moves-stay (into n ∷ more) h = no h
+moves-stay (gone ∷ more) h = no h
+
+-- a text has as many lines with its CRs as without
+pub split-lines : (t : List ℕ) → length (splitLines t) ≡ length (linesOf t)
+unfolding splitLines
+split-lines t = sym (length-map (linesOf (dropCr t)) (countOf 0)) ∙ ap length (drop-counts 0 refl t) ∙ length-map (linesOf t) (countOf 0)
+
+-- the place after the moves of acts is their number
+pub moves-end : (acts : List Act) {d d′ : List ℕ} {r : ℕ} (n : ℕ) → length acts ≡ n → Wrote d 0 (movesOf acts) d′ r → Wrote d 0 (movesOf acts) d′ n
+moves-end acts {d} {d′} {r} n e w =
+    let q : r ≡ n = omega (arith, w .place, moves-length acts) in
+    subst (λ (j : ℕ). Wrote d 0 (movesOf acts) d′ j) q w
+
+-- what was noted of lines that all stay is the moves of their acts
+pub stay-moves : (acts : List Act) {d d′ : List ℕ} {r : ℕ} (n : ℕ) → length acts ≡ n → all keeps acts ≡ true → Wrote d 0 (replicate n 0) d′ r → Wrote d 0 (movesOf acts) d′ n
+stay-moves acts n e h w = moves-end acts n e (wrote-as (ap (λ (j : ℕ). replicate j 0) (sym e) ∙ sym (moves-stay acts h)) w)
+
+-- one more of the lines that stay
+pub zeros-more : (i : ℕ) → replicate i 0 ++ (0 ∷ []) ≡ replicate {A = ℕ} (suc i) 0
+zeros-more zero = refl
+zeros-more (suc i) = ap (λ (l : List ℕ). 0 ∷ l) (zeros-more i)
+
+-- ---- the loop of `stay`
+
+pub stay-start : (d : List ℕ) (k : ℕ) → k ≤ length d → Wrote d k (replicate 0 0) d (k + 0)
+stay-start d k h = rw (add-zero k) (wrote-nil d k h)
+
+pub stay-on : {d₀ d : List ℕ} (k i : ℕ) → k + i < length d → Wrote d₀ k (replicate i 0) d (k + i) → Wrote d₀ k (replicate (i + 1) 0) (set d (k + i) 0) (k + (i + 1))
+stay-on {d₀} {d} k i h w =
+    let q : k + i + 1 ≡ k + (i + 1) = omega arith in
+    subst (λ (n : ℕ). Wrote d₀ k (replicate (i + 1) 0) (set d (k + i) 0) n) q (wrote-as (zeros-more i ∙ ap (λ (n : ℕ). replicate n 0) (sym (add-one i))) (wrote-more 0 w h))
+
+pub stay-end : {d₀ d : List ℕ} (k i n : ℕ) → i ≡ n → Wrote d₀ k (replicate i 0) d (k + i) → Wrote d₀ k (replicate n 0) d (k + n)
+stay-end {d₀} {d} k i n e w = subst (λ (n : ℕ). Wrote d₀ k (replicate n 0) d (k + n)) e w
