@@ -1,8 +1,8 @@
 -- Each public function of crate origins: its contract fixes its outcome. Assumes nothing.
-use mathlib.Core.Path.{sym, _∙_}
+use mathlib.Core.Path.{refl, sym, _∙_}
 use Rattle.lines.proofs.OutLaws.{wrote-once}
 use Rattle.origins.proofs as origins
-use Rattle.determined.proofs.Outcomes.{Determined, fixed}
+use Rattle.determined.proofs.Outcomes.{Determined, fixed, fixed-by, one, more}
 
 pub width-of-fixed : Determined origins.width_of.ended (λ κs z. z) origins.width_of.Reads.ensures
 width-of-fixed = fixed origins.width_of.Reads.Learnt (λ κs a x y l m. l ∙ sym m)
@@ -24,3 +24,24 @@ out-line-fixed = fixed origins.out_line.Reads.Learnt (λ κs a x y l m. l ∙ sy
 
 pub put-record-fixed : Determined origins.put_record.ended (λ κs z. z) origins.put_record.Reads.ensures
 put-record-fixed = fixed origins.put_record.Reads.Learnt (λ κs a x y l m. wrote-once l m)
+
+pub note-fixed : Determined origins.note.ended (λ κs z. z) origins.note.Reads.ensures
+note-fixed = fixed origins.note.Reads.Learnt (λ κs a x y l m. wrote-once l m)
+
+pub stay-lines-fixed : Determined origins.stay_lines.ended (λ κs z. z) origins.stay_lines.Reads.ensures
+stay-lines-fixed = fixed origins.stay_lines.Reads.Learnt (λ κs a x y l m. wrote-once l m)
+
+pub note-next-fixed : Determined origins.note_next.ended (λ κs z. z) origins.note_next.Reads.ensures
+note-next-fixed = fixed origins.note_next.Reads.Learnt (λ κs a x y l m. wrote-once l m)
+
+pub land-fixed : Determined origins.land.ended (λ κs z. z) origins.land.Reads.ensures
+land-fixed = fixed-by origins.land.Reads.Learnt (λ w κs a x. more w (one w)) (λ κs a x y l m. (l .1 ∙ sym (m .1), l .0 ∙ sym (m .0)))
+
+pub start-fixed : Determined origins.start.ended (λ κs z. z) origins.start.Reads.ensures
+start-fixed = fixed origins.start.Reads.Learnt (λ κs a x y l m. (l ∙ sym m, refl))
+
+pub follow-fixed : Determined origins.follow.ended (λ κs z. z) origins.follow.Reads.ensures
+follow-fixed = fixed origins.follow.Reads.Learnt (λ κs a x y l m. (l ∙ sym m, refl))
+
+pub put-records-fixed : Determined origins.put_records.ended (λ κs z. z) origins.put_records.Reads.ensures
+put-records-fixed = fixed origins.put_records.Reads.Learnt (λ κs a x y l m. wrote-once l m)

@@ -4,14 +4,16 @@ use mathlib.Core.Path.{_≡_, refl, sym, ap, subst, _∙_}
 use mathlib.Core.Bool.{Bool, true, false, cond}
 use mathlib.Core.List.{List, [], _∷_, _++_, append-assoc, append-nil}
 use native.Mathlib.Omega.{arith}
-use native.Mathlib.Nat.{zero-add}
+use native.Mathlib.Nat.{zero-add, add-zero}
+use native.Mathlib.Numerals.{add-one}
 use borrow.Author.Tests.{eq-eqb, ne-eqb, lt-ltb, le-ltb}
 use lib.Dec.{eqb}
 use lib.ListN.{length, take, drop, getD, set, length-append, length-take, length-drop, drop-of-length-le}
 use lib.Seq.{drop-cons, take-length, drop-length, drop-append-add, getD-append-add}
 use Rattle.lines.specs.Inner.Out.{Wrote}
-use Rattle.lines.proofs.OutLaws.{wrote-byte, wrote-as}
-use Rattle.origins.specs.Inner.Codes.{far, noteOf, half, takenCode, landGo, onCode, through, standing}
+use Rattle.lines.proofs.OutLaws.{wrote-byte, wrote-as, wrote-nil, wrote-more, wrote-whole}
+use Rattle.origins.specs.Fates.{staying}
+use Rattle.origins.specs.Inner.Codes.{codeOf, codesOf, far, noteOf, half, takenCode, landGo, onCode, through, standing}
 
 -- inside a list it is all one what stands past its end
 pub in-any : (l : List ℕ) (i a b : ℕ) → i < length l → getD l i a ≡ getD l i b
@@ -308,3 +310,27 @@ rest-all n m = ap (λ (j : ℕ). take j (drop n m)) (sym (length-drop n m)) ∙ 
 
 pub line-down : (m : List ℕ) (k r x : ℕ) → r ≡ takenCode (getD (far ∷ take (length m - (k + 1)) (drop (k + 1) m)) x far) → r ≡ takenCode (getD (far ∷ drop (k + 1) m) x far)
 line-down m k r x h = h ∙ ap (λ (l : List ℕ). takenCode (getD (far ∷ l) x far)) (rest-all (k + 1) m)
+
+-- ---- a table of lines that all stay
+
+code-more : (i o : ℕ) → codesOf (staying i o) ++ ((o + i) ∷ []) ≡ codesOf (staying (suc i) o)
+unfolding codesOf codeOf staying
+code-more zero o = ap (λ (n : ℕ). n ∷ []) (add-zero o)
+code-more (suc i) o = let q : o + suc i ≡ suc o + i = omega arith in ap (λ (l : List ℕ). o ∷ l) (ap (λ (n : ℕ). codesOf (staying i (suc o)) ++ (n ∷ [])) q ∙ code-more i (suc o))
+
+pub staying-codes : (n o : ℕ) → length (codesOf (staying n o)) ≡ n
+unfolding codesOf staying
+staying-codes zero o = refl
+staying-codes (suc n) o = ap suc (staying-codes n (suc o))
+
+pub start-none : (d : List ℕ) → Wrote d 0 (codesOf (staying 0 0)) d 0
+unfolding codesOf staying
+start-none d = wrote-nil d 0 (omega arith)
+
+pub start-on : {d₀ d : List ℕ} {i : ℕ} → i < length d → Wrote d₀ 0 (codesOf (staying i 0)) d i → Wrote d₀ 0 (codesOf (staying (i + 1) 0)) (set d i i) (i + 1)
+start-on {i = i} h w =
+    let q : 0 + i ≡ i = zero-add i in
+    wrote-as (ap (λ (n : ℕ). codesOf (staying i 0) ++ (n ∷ [])) (sym q) ∙ code-more i 0 ∙ ap (λ (n : ℕ). codesOf (staying n 0)) (sym (add-one i))) (wrote-more i w h)
+
+pub start-end : {d₀ d : List ℕ} {i n : ℕ} → i ≡ n → n ≡ length d₀ → Wrote d₀ 0 (codesOf (staying i 0)) d i → d ≡ codesOf (staying n 0)
+start-end {i = i} e h w = wrote-whole w (staying-codes i 0 ∙ e ∙ h) ∙ ap (λ (k : ℕ). codesOf (staying k 0)) e

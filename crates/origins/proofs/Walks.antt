@@ -62,6 +62,10 @@ pub said-inside : (l o : List ℕ) (c : ℕ) → (c ≡ far → ⊥) → half �
 unfolding saidOne
 said-inside l o c e h = rw (le-ltb c half h, ne-eqb c far e)
 
+-- the same, by whether the line stands
+abbrev saidBy : Bool → List ℕ → List ℕ → ℕ → Went
+saidBy b l o c = cond b (cond (same l o) (Equal c) (Changed c)) (cond (eqb c far) Away (Inside (c - half)))
+
 pub said-kept : (l o : List ℕ) (c : ℕ) (b : Bool) → c < half → same l o ≡ b → cond b (Equal c) (Changed c) ≡ saidOne l o c
 unfolding saidOne
 said-kept l o c b h e = rw (lt-ltb c half h, e)
@@ -112,15 +116,19 @@ unfolding fileOf
 walk-start F t lf cs d h = record { i≤ = omega arith; p≤ = omega arith; k≤ = omega arith; writing = writing-start 0 (fileOf F (wentsBy (linesOf lf) (splitLines t) cs)) d (omega arith) }
 
 module _ {F : Shape} {t lf cs d₀ d : List ℕ} {i p k o : ℕ} (h : WalkInv F t lf cs d₀ d i p k o) where
-  module _ (a : i < length t) (b : k < length cs) (e q x : ℕ) (y : e ≡ i + upTo 10 (drop i t)) (z : q ≡ p + upTo 10 (drop p lf)) (u : x ≡ i + bareBy (drop i t) (e - i)) where
+  module _ (a : i < length t) (b : k < length cs) (e q x : ℕ) (y : e ≡ i + upTo 10 (drop i t)) (z : q ≡ cond (ltb (getD cs k 0) half) (p + upTo 10 (drop p lf)) p) (u : x ≡ i + bareBy (drop i t) (e - i)) where
     e-le : e ≤ length t
     e-le = find-le 10 t i e (h .i≤) y
 
+    q-in : (c : Bool) → q ≡ cond c (p + upTo 10 (drop p lf)) p → (p ≤ q) × (q ≤ length lf)
+    q-in true v = (omega arith, find-le 10 lf p q (h .p≤) v)
+    q-in false v = (omega arith, omega (arith, h .p≤))
+
     pub q-le : q ≤ length lf
-    q-le = find-le 10 lf p q (h .p≤) z
+    q-le = q-in (ltb (getD cs k 0) half) z .1
 
     pub q-from : p ≤ q
-    q-from = omega arith
+    q-from = q-in (ltb (getD cs k 0) half) z .0
 
     pub x-from : i ≤ x
     x-from = omega arith
@@ -142,42 +150,47 @@ module _ {F : Shape} {t lf cs d₀ d : List ℕ} {i p k o : ℕ} (h : WalkInv F 
     abbrev now-said : Went
     now-said = saidOne (part i x t) (part p q lf) (getD cs k 0)
 
-    left-is : (r : ℕ) → r ≡ cond (ltb (getD cs k 0) half) (min (q + 1) (length lf)) p → leftOver (getD cs k 0) (linesOf (drop p lf)) ≡ linesOf (drop r lf)
-    unfolding leftOver
-    left-is r w = go (ltb (getD cs k 0) half) w
+    -- the line that came out, where this one stands as it, and those below it
+    step-is : (r : ℕ) → r ≡ cond (ltb (getD cs k 0) half) (min (q + 1) (length lf)) q →
+        (saidOne (part i x t) (getD (linesOf (drop p lf)) 0 []) (getD cs k 0) ≡ now-said) × (leftOver (getD cs k 0) (linesOf (drop p lf)) ≡ linesOf (drop r lf))
+    unfolding leftOver saidOne
+    step-is r w = go (ltb (getD cs k 0) half) z w
       where
-        go : (c : Bool) → r ≡ cond c (min (q + 1) (length lf)) p → cond c (drop 1 (linesOf (drop p lf))) (linesOf (drop p lf)) ≡ linesOf (drop r lf)
-        go true v = sym (next-lines lf p q (h .p≤) z .1) ∙ ap (λ (n : ℕ). linesOf (drop n lf)) (sym v)
-        go false v = ap (λ (n : ℕ). linesOf (drop n lf)) (sym v)
+        go : (c : Bool) → q ≡ cond c (p + upTo 10 (drop p lf)) p → r ≡ cond c (min (q + 1) (length lf)) q →
+            (saidBy c (part i x t) (getD (linesOf (drop p lf)) 0 []) (getD cs k 0) ≡ saidBy c (part i x t) (part p q lf) (getD cs k 0)) × (cond c (drop 1 (linesOf (drop p lf))) (linesOf (drop p lf)) ≡ linesOf (drop r lf))
+        go true v g =
+            let n = next-lines lf p q (h .p≤) v in
+            (ap (λ (o : List ℕ). saidBy true (part i x t) o (getD cs k 0)) (n .0), sym (n .1) ∙ ap (λ (j : ℕ). linesOf (drop j lf)) (sym g))
+        go false v g = (refl, ap (λ (j : ℕ). linesOf (drop j lf)) (sym (g ∙ v)))
 
-    rest-is : (r : ℕ) → r ≡ cond (ltb (getD cs k 0) half) (min (q + 1) (length lf)) p →
+    rest-is : (r : ℕ) → r ≡ cond (ltb (getD cs k 0) half) (min (q + 1) (length lf)) q →
         rest F t lf cs i p k ≡ recordBytes F k now-said ++ rest F t lf cs (min (e + 1) (length t)) r (k + 1)
     unfolding wentsBy recordsFrom
     rest-is r w =
         let n : suc k ≡ k + 1 = omega arith in
         ap (λ (ls : List (List ℕ)). recordsFrom F k (wentsBy (linesOf (drop p lf)) ls (drop k cs))) line-is
         ∙ ap (λ (c : List ℕ). recordsFrom F k (wentsBy (linesOf (drop p lf)) (part i x t ∷ splitLines (drop (min (e + 1) (length t)) t)) c)) (drop-cons cs k 0 b)
-        ∙ ap (λ (l : List ℕ). recordBytes F k (saidOne (part i x t) l (getD cs k 0)) ++ recordsFrom F (suc k) (wentsBy (leftOver (getD cs k 0) (linesOf (drop p lf))) (splitLines (drop (min (e + 1) (length t)) t)) (drop (suc k) cs))) (next-lines lf p q (h .p≤) z .0)
-        ∙ ap (λ (ls : List (List ℕ)). recordBytes F k now-said ++ recordsFrom F (suc k) (wentsBy ls (splitLines (drop (min (e + 1) (length t)) t)) (drop (suc k) cs))) (left-is r w)
+        ∙ ap (λ (m : Went). recordBytes F k m ++ recordsFrom F (suc k) (wentsBy (leftOver (getD cs k 0) (linesOf (drop p lf))) (splitLines (drop (min (e + 1) (length t)) t)) (drop (suc k) cs))) (step-is r w .0)
+        ∙ ap (λ (ls : List (List ℕ)). recordBytes F k now-said ++ recordsFrom F (suc k) (wentsBy ls (splitLines (drop (min (e + 1) (length t)) t)) (drop (suc k) cs))) (step-is r w .1)
         ∙ ap (λ (j : ℕ). recordBytes F k now-said ++ recordsFrom F j (wentsBy (linesOf (drop r lf)) (splitLines (drop (min (e + 1) (length t)) t)) (drop j cs))) n
 
-    out-le : (r : ℕ) → r ≡ cond (ltb (getD cs k 0) half) (min (q + 1) (length lf)) p → r ≤ length lf
+    out-le : (r : ℕ) → r ≡ cond (ltb (getD cs k 0) half) (min (q + 1) (length lf)) q → r ≤ length lf
     out-le r w = go (ltb (getD cs k 0) half) w
       where
-        go : (c : Bool) → r ≡ cond c (min (q + 1) (length lf)) p → r ≤ length lf
+        go : (c : Bool) → r ≡ cond c (min (q + 1) (length lf)) q → r ≤ length lf
         go true v = omega arith
-        go false v = omega (arith, h .p≤)
+        go false v = omega (arith, q-le)
 
-    next : (r : ℕ) → r ≡ cond (ltb (getD cs k 0) half) (min (q + 1) (length lf)) p →
+    next : (r : ℕ) → r ≡ cond (ltb (getD cs k 0) half) (min (q + 1) (length lf)) q →
         Writing 0 (fileOf F (wentsBy (linesOf lf) (splitLines t) cs)) (recordBytes F k now-said ++ rest F t lf cs (min (e + 1) (length t)) r (k + 1)) d₀ d o
     next r w = writing-as (rest-is r w) (h .writing)
 
     pub walk-room : o + sizeOf F ≤ length d
     walk-room =
         let w = next _ refl in
-        omega (arith, writing-room w, length-append (recordBytes F k now-said) (rest F t lf cs (min (e + 1) (length t)) (cond (ltb (getD cs k 0) half) (min (q + 1) (length lf)) p) (k + 1)), record-length F k now-said [])
+        omega (arith, writing-room w, length-append (recordBytes F k now-said) (rest F t lf cs (min (e + 1) (length t)) (cond (ltb (getD cs k 0) half) (min (q + 1) (length lf)) q) (k + 1)), record-length F k now-said [])
 
-    pub walk-on : (m : Went) (d′ : List ℕ) (n r j : ℕ) → m ≡ now-said → Wrote d o (recordBytes F k m) d′ n → r ≡ cond (ltb (getD cs k 0) half) (min (q + 1) (length lf)) p → j ≡ min (e + 1) (length t) → WalkInv F t lf cs d₀ d′ j r (k + 1) n
+    pub walk-on : (m : Went) (d′ : List ℕ) (n r j : ℕ) → m ≡ now-said → Wrote d o (recordBytes F k m) d′ n → r ≡ cond (ltb (getD cs k 0) half) (min (q + 1) (length lf)) q → j ≡ min (e + 1) (length t) → WalkInv F t lf cs d₀ d′ j r (k + 1) n
     walk-on m d′ n r j s w v g = record {
       i≤ = omega arith;
       p≤ = out-le r v;
@@ -195,11 +208,11 @@ module _ {F : Shape} {t lf cs d₀ d : List ℕ} {i p k o : ℕ} (h : WalkInv F 
           ap (λ (l : List ℕ). recordsFrom F k (wentsBy (linesOf (drop p lf)) (splitLines l) (drop k cs))) (drop-of-length-le t (ltb-false i (length t) e))
           ∙ ap (λ (ls : List (List ℕ)). recordsFrom F k (wentsBy (linesOf (drop p lf)) ls (drop k cs))) split-none
 
-pub next-stands : (lf : List ℕ) (p q c r : ℕ) → c < half → r ≡ min (q + 1) (length lf) → r ≡ cond (ltb c half) (min (q + 1) (length lf)) p
-next-stands lf p q c r h e = rw (lt-ltb c half h) e
+pub by-stands : (c a b r : ℕ) → c < half → r ≡ a → r ≡ cond (ltb c half) a b
+by-stands c a b r h e = rw (lt-ltb c half h) e
 
-pub next-stays : (lf : List ℕ) (p q c : ℕ) → half ≤ c → p ≡ cond (ltb c half) (min (q + 1) (length lf)) p
-next-stays lf p q c h = rw (le-ltb c half h)
+pub by-stays : (c a b : ℕ) → half ≤ c → b ≡ cond (ltb c half) a b
+by-stays c a b h = rw (le-ltb c half h)
 
 pub both-in : (i n k m : ℕ) → ltb i n && ltb k m ≡ true → (i < n) × (k < m)
 both-in i n k m h = (ltb-true i n (and-left (ltb i n) (ltb k m) h), ltb-true k m (and-right (ltb i n) (ltb k m) h))

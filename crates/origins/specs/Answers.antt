@@ -33,11 +33,11 @@ pub data Lines : Type 0 where
   refused : ℕ → ℕ → Lines
 
 -- 6: the room is too short
-abbrev pub roomed : List ℕ → ℕ → Lines
-roomed ls room = cond (ltb room (length ls)) (refused 6 (length ls)) (found ls)
+abbrev pub roomedLines : List ℕ → ℕ → Lines
+roomedLines ls room = cond (ltb room (length ls)) (refused 6 (length ls)) (found ls)
 
 abbrev pub linesBy : ℕ → ℕ → Said → Lines
-linesBy n room (says ws) = roomed (behind n ws) room
+linesBy n room (says ws) = roomedLines (behind n ws) room
 linesBy n room (wrong c i) = refused c i
 
 -- asked for output line n, of a file s, with room for so many lines

@@ -1,9 +1,17 @@
-// Records that say where each line goes, as bytes in either form.
+// Where each line goes: tables of moves and of codes, and the records that say so, as bytes in either form.
 ghost use mathlib.Core.Path.{_≡_};
-ghost use Prim.Native.Nat.{_≤_, _+_};
-ghost use lib.ListN.{length};
+ghost use mathlib.Core.Bool.{cond};
+ghost use mathlib.Core.List.{[], _∷_};
+ghost use Prim.Native.Nat.{_≤_, _<_, _+_, _-_, min};
+ghost use lib.Dec.{eqb, ltb};
+ghost use lib.ListN.{length, getD, set, drop, replicate};
+ghost use Rattle.lines.specs.Lf.{upTo, linesOf};
+ghost use Rattle.lines.specs.Steps.{splitLines};
 ghost use Rattle.lines.specs.Inner.Out.{Wrote};
-ghost use Rattle.origins.specs.Form.{shapeOf, goneOf, sizeOf, lowBytes, fateByte, outLine, recordBytes};
+ghost use Rattle.origins.specs.Fates.{staying};
+ghost use Rattle.origins.specs.Form.{shapeOf, goneOf, sizeOf, lowBytes, fateByte, outLine, recordBytes, fileOf};
+ghost use Rattle.origins.specs.Inner.Codes.{half, far, noteOf, codesOf, takenCode, landGo, onCode, through, standing};
+ghost use Rattle.origins.specs.Inner.Written.{saidOne, wentsBy, bareBy};
 
 // What a record says of a line: it is kept with equal bytes as an output line, kept with other bytes, its value is inside one, or it is away.
 pub enum Went {
@@ -30,6 +38,181 @@ pub const GONE: u8 = 3;
 
 // The first byte of the mark.
 pub const MARK: u8 = b'O';
+
+// The move of a line that is gone, and the code of one that is lost.
+pub const FAR: usize = 18446744073709551615;
+
+// The code of what the first line holds.
+pub const HALF: usize = 9223372036854775808;
+
+// Notes whether line `k` is gone: where nothing was written of it, from `o` up to `p`. Returns the next line.
+pub fn note(moves: &mut [usize], k: usize, o: usize, p: usize) -> usize
+    requires { ⌜ k < length (now moves) ⌝ }
+    ensures { λ r. ⌜ Wrote (now (moves .entry)) k (noteOf o p ∷ []) (now (moves .exit)) r ⌝ }
+{
+    if o == p {
+        moves[k] = FAR;
+        return k + 1;
+    }
+    moves[k] = 0;
+    k + 1
+}
+
+// Notes of `n` lines from `k` on that they stay. Returns the next line.
+fn stay(moves: &mut [usize], k: usize, n: usize) -> usize
+    requires { ⌜ k + n ≤ length (now moves) ⌝ }
+    ensures { λ r. ⌜ Wrote (now (moves .entry)) k (replicate n 0) (now (moves .exit)) r ⌝ }
+{
+    let mut i = 0;
+    while i < n {
+        moves[k + i] = 0;
+        i += 1;
+    }
+    k + n
+}
+
+// Notes of the lines of a text, the first of them `k`, that they stay. Returns the next line.
+pub fn stay_lines(text: &[u8], moves: &mut [usize], k: usize) -> usize
+    requires { ⌜ k + length (linesOf (now text)) ≤ length (now moves) ⌝ }
+    ensures { λ r. ⌜ Wrote (now (moves .entry)) k (replicate (length (linesOf (now (text .entry)))) 0) (now (moves .exit)) r ⌝ }
+{
+    let n = lines::count_lines(text);
+    stay(moves, k, n)
+}
+
+// The next line from `k` on that stands; where there is none, the place after all.
+fn next_standing(moves: &[usize], k: usize) -> usize
+    ensures { λ r. ⌜ r ≡ k + upTo 0 (drop k (now (moves .entry))) ⌝ }
+{
+    let mut j = k;
+    while j < moves.len() {
+        if moves[j] == 0 {
+            return j;
+        }
+        j += 1;
+    }
+    j
+}
+
+// The same as `note`, of the next line from `k` on that stands.
+pub fn note_next(moves: &mut [usize], k: usize, o: usize, p: usize) -> usize
+    requires { ⌜ 0 < standing (drop k (now moves)) ⌝ }
+    ensures { λ r. ⌜ Wrote (now (moves .entry)) (k + upTo 0 (drop k (now (moves .entry)))) (noteOf o p ∷ []) (now (moves .exit)) r ⌝ }
+{
+    let j = next_standing(moves, k);
+    note(moves, j, o, p)
+}
+
+// How many lines stand, by their moves.
+fn count_standing(moves: &[usize]) -> usize
+    ensures { λ r. ⌜ r ≡ standing (now (moves .entry)) ⌝ }
+{
+    let mut n = 0;
+    let mut i = 0;
+    while i < moves.len() {
+        if moves[i] == 0 {
+            n += 1;
+            i += 1;
+        } else {
+            i += 1;
+        }
+    }
+    n
+}
+
+// The code of what was taken into a line of the code `c`.
+fn taken_code(c: usize) -> usize
+    ensures { λ r. ⌜ r ≡ takenCode c ⌝ }
+{
+    if c < HALF {
+        return HALF + c;
+    }
+    c
+}
+
+// The code at a place; past the end a line is lost.
+fn code_at(codes: &[usize], i: usize) -> usize
+    ensures { λ r. ⌜ r ≡ getD (now (codes .entry)) i far ⌝ }
+{
+    if i < codes.len() {
+        return codes[i];
+    }
+    FAR
+}
+
+// Where a line goes that goes `d` lines down, by the codes of the lines below it.
+fn land_at(below: &[usize], d: usize) -> usize
+    requires { ⌜ 0 < d ⌝ }
+    ensures { λ r. ⌜ r ≡ takenCode (getD (far ∷ now (below .entry)) d far) ⌝ }
+{
+    let c = code_at(below, d - 1);
+    taken_code(c)
+}
+
+// Turns the move of line `k` into its code, where `s` lines stand above line `k + 1`, and returns how many stand above it.
+fn land_line(moves: &mut [usize], k: usize, s: usize) -> usize
+    requires { ⌜ (k < length (now moves)) × (getD (now moves) k 0 ≡ 0 → 0 < s) ⌝ }
+    ensures answer { λ r. ⌜ r ≡ cond (eqb (getD (now (moves .entry)) k 0) 0) (s - 1) s ⌝ }
+    ensures memory { λ _. ⌜ now (moves .exit) ≡ set (now (moves .entry)) k (cond (eqb (getD (now (moves .entry)) k 0) 0) (s - 1) (takenCode (getD (far ∷ drop (k + 1) (now (moves .entry))) (getD (now (moves .entry)) k 0) far))) ⌝ }
+{
+    let d = moves[k];
+    if d == 0 {
+        moves[k] = s - 1;
+        return s - 1;
+    }
+    let c = land_at(&moves[k + 1..], d);
+    moves[k] = c;
+    s
+}
+
+// Turns the moves of lines into their codes, and returns how many lines stand.
+pub fn land(moves: &mut [usize]) -> usize
+    ensures answer { λ r. ⌜ r ≡ standing (now (moves .entry)) ⌝ }
+    ensures memory { λ _. ⌜ now (moves .exit) ≡ landGo (now (moves .entry)) 0 ⌝ }
+{
+    let n = count_standing(moves);
+    let mut s = n;
+    let mut k = moves.len();
+    while k > 0 {
+        s = land_line(moves, k - 1, s);
+        k -= 1;
+    }
+    n
+}
+
+// Fills a table with the codes of lines that all stay: 0, 1, 2, ..
+pub fn start(table: &mut [usize])
+    ensures { λ _. ⌜ now (table .exit) ≡ codesOf (staying (length (now (table .entry))) 0) ⌝ }
+{
+    let mut i = 0;
+    while i < table.len() {
+        table[i] = i;
+        i += 1;
+    }
+}
+
+// Where a line of the code `c` is, when the lines there have these codes.
+fn on_code(codes: &[usize], c: usize) -> usize
+    ensures { λ r. ⌜ r ≡ onCode (now (codes .entry)) c ⌝ }
+{
+    if c < HALF {
+        return code_at(codes, c);
+    }
+    let d = code_at(codes, c - HALF);
+    taken_code(d)
+}
+
+// Takes each code of a table on through the codes of the next pass.
+pub fn follow(table: &mut [usize], codes: &[usize])
+    ensures { λ _. ⌜ now (table .exit) ≡ through (now (table .entry)) (now (codes .entry)) ⌝ }
+{
+    let mut i = 0;
+    while i < table.len() {
+        let c = table[i];
+        table[i] = on_code(codes, c);
+        i += 1;
+    }
+}
 
 // How many bytes a line has in a form.
 pub fn width_of(f: Form) -> usize
@@ -122,4 +305,80 @@ pub fn put_record(out: &mut [u8], o: usize, f: Form, i: usize, w: Went) -> usize
     let r = put_number(out, q, width_of(f), i);
     let s = lines::put_byte(out, r, fate_byte(w));
     put_number(out, s, width_of(f), out_line(f, w))
+}
+
+// Where a raw line from `i` ends whose LF, or the end, stands at `e`: before a CR just before that LF.
+fn bare_end(text: &[u8], i: usize, e: usize) -> usize
+    requires { ⌜ (i ≤ e) × (e ≤ length (now text)) ⌝ }
+    ensures { λ r. ⌜ r ≡ i + bareBy (drop i (now (text .entry))) (e - i) ⌝ }
+{
+    if e <= i {
+        return e;
+    }
+    if text.len() <= e {
+        return e;
+    }
+    if text[e - 1] == 13 {
+        return e - 1;
+    }
+    e
+}
+
+// What is said of a line by its code, where `o` is the next line that came out.
+fn said_one(line: &[u8], o: &[u8], c: usize) -> Went
+    ensures { λ r. ⌜ r ≡ saidOne (now (line .entry)) (now (o .entry)) c ⌝ }
+{
+    if c == FAR {
+        return Went::Away;
+    }
+    if HALF <= c {
+        return Went::Inside(c - HALF);
+    }
+    if lines::same(line, o) {
+        return Went::Equal(c);
+    }
+    Went::Changed(c)
+}
+
+// Where the next line that came out ends, for a line of the code `c`: it is asked only where that one stands.
+fn out_end(lf: &[u8], p: usize, c: usize) -> usize
+    ensures { λ r. ⌜ r ≡ cond (ltb c half) (p + upTo 10 (drop p (now (lf .entry)))) p ⌝ }
+{
+    if c < HALF {
+        return lines::find_byte(lf, p, 10);
+    }
+    p
+}
+
+// Where the next line that came out begins, after a line of the code `c`.
+fn next_out(lf: &[u8], q: usize, c: usize) -> usize
+    ensures { λ r. ⌜ r ≡ cond (ltb c half) (min (q + 1) (length (now (lf .entry)))) q ⌝ }
+{
+    if c < HALF {
+        return lines::after(lf, q);
+    }
+    q
+}
+
+// Writes the records of the lines of a raw text, by their codes, where `lf` has the lines that came out. Returns the place after them.
+pub fn put_records(f: Form, text: &[u8], lf: &[u8], table: &[usize], orig: &mut [u8]) -> usize
+    requires { ⌜ length (fileOf (shapeOf f) (wentsBy (linesOf (now lf)) (splitLines (now text)) (now table))) ≤ length (now orig) ⌝ }
+    ensures { λ r. ⌜ Wrote (now (orig .entry)) 0 (fileOf (shapeOf f) (wentsBy (linesOf (now (lf .entry))) (splitLines (now (text .entry))) (now (table .entry)))) (now (orig .exit)) r ⌝ }
+{
+    let mut i = 0;
+    let mut p = 0;
+    let mut k = 0;
+    let mut o = 0;
+    while (i < text.len()) & (k < table.len()) {
+        let c = table[k];
+        let e = lines::find_byte(text, i, 10);
+        let q = out_end(lf, p, c);
+        let t = bare_end(text, i, e);
+        let w = said_one(&text[i..t], &lf[p..q], c);
+        o = put_record(orig, o, f, k, w);
+        p = next_out(lf, q, c);
+        k += 1;
+        i = lines::after(text, e);
+    }
+    o
 }

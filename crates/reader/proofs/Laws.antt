@@ -18,7 +18,7 @@ use Rattle.origins.specs.declared.Form.{Form}
 use Rattle.origins.specs.declared.Form.the-variants as form
 use Rattle.origins.specs.Form.{Shape, shapeOf, goneOf, sizeOf, recordBytes, recordsFrom, fileOf}
 use Rattle.origins.specs.Read.{fromLow, lineIn, fateIn, outIn, faultIn, wentIn, Said, says, wrong, saidBy, readFrom, readFile}
-use Rattle.origins.specs.Answers.{isIn, behindFrom, behind, roomed, linesBy, linesFor, fitsOut, fits, fitsFrom, unfit, turnBy, turn}
+use Rattle.origins.specs.Answers.{isIn, behindFrom, behind, roomedLines, linesBy, linesFor, fitsOut, fits, fitsFrom, unfit, turnBy, turn}
 use Rattle.origins.proofs.RoundTrip.{Good, good-of, record-length, file-length}
 use Rattle.reader.specs.declared.Reply.{Reply}
 use Rattle.reader.specs.declared.Reply.the-variants.{Fine, Cut, WrongMark, OutOfOrder, UnknownFate, Disagree, Unfit, Short, NoRoom}
@@ -504,7 +504,7 @@ module _ (F : Shape) (s d : List ℕ) (x y : Reply) (h : x ≡ checkReply (readF
       go (says ws) z = no (sym f ∙ ap isFine z)
       go (wrong c j) z = (z, refl)
 
-pub lines-for : (F : Shape) (s : List ℕ) (x : Reply) (m n room : ℕ) → x ≡ checkReply (readFile F s) → x ≡ Fine m → roomed (behind n (wentsIn F s)) room ≡ linesFor F s n room
+pub lines-for : (F : Shape) (s : List ℕ) (x : Reply) (m n room : ℕ) → x ≡ checkReply (readFile F s) → x ≡ Fine m → roomedLines (behind n (wentsIn F s)) room ≡ linesFor F s n room
 unfolding linesFor
 lines-for F s x m n room h e = rw (fine-says F s m (sym e ∙ h) .0)
 
@@ -515,10 +515,10 @@ unfolding putAt
 front d xs d′ r w = let q : 0 + length xs ≡ length xs = omega arith in w .holds ∙ ap (λ (n : ℕ). xs ++ drop n d) q
 
 module _ (ls d : List ℕ) where
-  pub answer-short : (k : ℕ) → k ≡ length ls → length d < k → (NoRoom k ≡ linesReply (roomed ls (length d))) × (d ≡ linesAfter (roomed ls (length d)) d)
+  pub answer-short : (k : ℕ) → k ≡ length ls → length d < k → (NoRoom k ≡ linesReply (roomedLines ls (length d))) × (d ≡ linesAfter (roomedLines ls (length d)) d)
   answer-short k e h = rw (lt-ltb (length d) (length ls) (omega arith)) (ap NoRoom e, refl)
 
-  pub answer-found : (d′ : List ℕ) (k m : ℕ) → k ≡ length ls → k ≤ length d → Wrote d 0 ls d′ m → (Fine m ≡ linesReply (roomed ls (length d))) × (d′ ≡ linesAfter (roomed ls (length d)) d)
+  pub answer-found : (d′ : List ℕ) (k m : ℕ) → k ≡ length ls → k ≤ length d → Wrote d 0 ls d′ m → (Fine m ≡ linesReply (roomedLines ls (length d))) × (d′ ≡ linesAfter (roomedLines ls (length d)) d)
   answer-found d′ k m e h w = let q : m ≡ length ls = omega (arith, w .place) in rw (le-ltb (length d) (length ls) (omega arith)) (ap Fine q, front d ls d′ m w)
 
 -- ---- the other form

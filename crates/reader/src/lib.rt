@@ -8,7 +8,7 @@ ghost use Rattle.lines.specs.Inner.Out.{Wrote};
 ghost use Rattle.origins.specs.declared.Went.the-variants.{Away};
 ghost use Rattle.origins.specs.Form.{shapeOf, sizeOf, fileOf};
 ghost use Rattle.origins.specs.Read.{fromLow, lineIn, fateIn, outIn, faultIn, wentBy, wentIn, says, readFile};
-ghost use Rattle.origins.specs.Answers.{isIn, behind, roomed, linesFor, fits, unfit, turnBy, turn};
+ghost use Rattle.origins.specs.Answers.{isIn, behind, roomedLines, linesFor, fits, unfit, turnBy, turn};
 ghost use Rattle.reader.specs.Replies.{numberOf, placeOf, countOf, formIn, refusal, checkReply, linesReply, linesAfter, turnedReply, turnedAfter, wentsIn};
 ghost use Rattle.reader.specs.Inner.Walk.{oneIn};
 
@@ -324,8 +324,8 @@ fn put_behind(f: origins::Form, file: &[u8], n: usize, room: &mut [usize]) -> us
 
 // The lines behind an output line of a file that is right, where there is room.
 fn answer_lines(f: origins::Form, file: &[u8], n: usize, room: &mut [usize]) -> Reply
-    ensures answer { λ r. ⌜ r ≡ linesReply (roomed (behind n (wentsIn (shapeOf f) (now (file .entry)))) (length (now (room .entry)))) ⌝ }
-    ensures memory { λ _. ⌜ now (room .exit) ≡ linesAfter (roomed (behind n (wentsIn (shapeOf f) (now (file .entry)))) (length (now (room .entry)))) (now (room .entry)) ⌝ }
+    ensures answer { λ r. ⌜ r ≡ linesReply (roomedLines (behind n (wentsIn (shapeOf f) (now (file .entry)))) (length (now (room .entry)))) ⌝ }
+    ensures memory { λ _. ⌜ now (room .exit) ≡ linesAfter (roomedLines (behind n (wentsIn (shapeOf f) (now (file .entry)))) (length (now (room .entry)))) (now (room .entry)) ⌝ }
 {
     let k = count_behind(f, file, n);
     if room.len() < k {
