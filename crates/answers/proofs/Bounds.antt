@@ -1,13 +1,13 @@
 -- Bounds of answers that are tested before they are written. Assumes nothing.
 use Prim.Native.Nat.{ℕ, zero, suc, _+_, _≤_}
-use mathlib.Core.Path.{_≡_, refl, sym, ap, _∙_}
+use mathlib.Core.Path.{_≡_, refl, sym, ap}
 use mathlib.Core.Bool.{Bool, true, false, _||_}
 use mathlib.Core.List.{List}
 use native.Mathlib.Omega.{arith}
-use lib.ListN.{length, replicate, length-take, length-drop, length-map}
+use lib.ListN.{length, replicate, length-take, length-drop}
 use Rattle.lines.specs.Lf.{part, countOf, linesOf, unlines}
-use Rattle.lines.specs.Steps.{dropCr, splitLines}
-use Rattle.lines.proofs.Counts.{drop-counts}
+use Rattle.lines.specs.Steps.{splitLines}
+use Rattle.lines.proofs.Counts.{split-lines}
 use Rattle.place.specs.Inner.Parents.{pathParents}
 use Rattle.place.proofs.Rooms.{path-parents-text}
 use Rattle.weight.specs.Inner.Weight.{weight}
@@ -41,11 +41,7 @@ replaced-room from to l rep =
 
 -- a text has as many lines with its CRs as without
 pub lines-count : (t : List ℕ) → length (linesOf t) ≡ length (splitLines t)
-unfolding splitLines
-lines-count t =
-    sym (length-map (linesOf t) (countOf 10))
-    ∙ sym (ap length (drop-counts 10 refl t))
-    ∙ length-map (linesOf (dropCr t)) (countOf 10)
+lines-count t = sym (split-lines t)
 
 -- a pass that does not raise the weight: twice the text and one LF is room
 pub pass-room : (pass : List (List ℕ) → List (List ℕ)) → ((ls : List (List ℕ)) → weight 0 (unlines (pass ls)) ≤ weight 0 (unlines ls)) →

@@ -10,9 +10,9 @@ use Rattle.lines.specs.Lf.{part, upTo, linesOf, partsOf, cutOn}
 use Rattle.lines.specs.Acts.{keep, gone}
 use Rattle.lines.specs.Inner.Out.{Wrote}
 use Rattle.lines.proofs.LfLaws.{lines-at, lines-end, part-none}
-use Rattle.lines.proofs.OutLaws.{Writing, writing-start, writing-as, writing-put, writing-room, writing-end, wrote-as}
+use Rattle.lines.proofs.OutLaws.{Writing, writing-start, writing-as, writing-put, writing-room, writing-end, wrote-as, zeros-more}
 use Rattle.origins.specs.Inner.Codes.{moveOf, movesOf, noteOf}
-use Rattle.origins.proofs.Notes.{plainly, note-act, moves-length, moves-end, zeros-more}
+use Rattle.origins.proofs.Notes.{plainly, note-act, moves-length, moves-end}
 use Rattle.text.specs.Trim.{fromOf, trimOf}
 use Rattle.parse.specs.Parse.{bodyOf, isDecl}
 use Rattle.place.specs.Region.{region, regionAt}

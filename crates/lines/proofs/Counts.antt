@@ -102,13 +102,15 @@ missing-count t = go (ltb 0 (length t) && not (endsIn 10 t))
     go true = refl
     go false = refl
 
+-- a text has as many lines with its CRs as without
+pub split-lines : (t : List ℕ) → length (splitLines t) ≡ length (linesOf t)
+unfolding splitLines
+split-lines t = sym (length-map (linesOf (dropCr t)) (countOf 10)) ∙ ap length (drop-counts 10 refl t) ∙ length-map (linesOf t) (countOf 10)
+
 -- a line for each LF, and one for a rest without LF
 pub split-count : (t : List ℕ) {xs : List ℕ} → missingLf t ≡ xs → length (splitLines t) ≡ countOf 10 t + length xs
-unfolding splitLines
 split-count t e =
-    sym (length-map (linesOf (dropCr t)) (countOf 10))
-    ∙ ap length (drop-counts 10 refl t)
-    ∙ length-map (linesOf t) (countOf 10)
+    split-lines t
     ∙ sym (count-unlines (linesOf t) (lines-noLf t))
     ∙ ap (countOf 10) (lines-text t)
     ∙ count-append 10 t (missingLf t)

@@ -201,7 +201,7 @@ module _ (t d : List ℕ) (o j : ℕ) (h : (o + 8 ≤ length d) × (j + 8 ≤ le
 
 -- ---- the loop of `wipe`
 
-zeros-more : (i : ℕ) → replicate i 0 ++ (0 ∷ []) ≡ replicate {A = ℕ} (suc i) 0
+pub zeros-more : (i : ℕ) → replicate i 0 ++ (0 ∷ []) ≡ replicate {A = ℕ} (suc i) 0
 zeros-more zero = refl
 zeros-more (suc i) = ap (λ (l : List ℕ). 0 ∷ l) (zeros-more i)
 

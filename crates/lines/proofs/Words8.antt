@@ -12,8 +12,8 @@ use lib.Count.{under, trailingZeros}
 use lib.ListN.{length, take, drop, getD}
 use Rattle.lines.proofs.Tests.{T-left, T-right}
 use Rattle.lines.proofs.LfLaws.{eight-is, up-front}
-use Rattle.lines.specs.Lf.{upTo}
-use Rattle.lines.specs.Inner.Lf.{word, marks}
+use Rattle.lines.specs.Lf.{upTo, word}
+use Rattle.lines.specs.Inner.Lf.{marks}
 
 -- ---- the marks of a number, byte by byte
 

@@ -1,5 +1,5 @@
 -- Bytes, parts of them, and LF form: every line followed by one LF. Assumes nothing.
-use Prim.Native.Nat.{ℕ, suc, _-_}
+use Prim.Native.Nat.{ℕ, suc, _+_, _-_, _*_}
 use Prim.Native.Char.{code}
 use mathlib.Core.Bool.{Bool, true, false, cond, _&&_, _||_}
 use mathlib.Core.List.{List, [], _∷_, _++_}
@@ -38,6 +38,11 @@ upTo b (x ∷ xs) = cond (eqb x b) 0 (suc (upTo b xs))
 unfoldable pub countOf : ℕ → List ℕ → ℕ
 countOf b [] = 0
 countOf b (x ∷ xs) = cond (eqb x b) (suc (countOf b xs)) (countOf b xs)
+
+-- the number that bytes are, the first of them lowest
+unfoldable pub word : List ℕ → ℕ
+word [] = 0
+word (x ∷ xs) = word xs * 256 + x
 
 -- p stands at the front
 unfoldable pub prefixed : List ℕ → List ℕ → Bool

@@ -4,8 +4,8 @@ ghost use mathlib.Core.List.{[], _∷_, _++_};
 ghost use Prim.Native.Nat.{ℕ, min, _≤_, _<_, _+_, _/_};
 ghost use lib.Count.{trailingZeros};
 ghost use lib.ListN.{getD, take, drop, length, replicate};
-ghost use Rattle.lines.specs.Lf.{part, upTo, countOf, prefixed, suffixed, same, holds, endsIn, linesOf, unlines};
-ghost use Rattle.lines.specs.Inner.Lf.{lineStart, word, marks, lacks};
+ghost use Rattle.lines.specs.Lf.{part, upTo, countOf, word, prefixed, suffixed, same, holds, endsIn, linesOf, unlines};
+ghost use Rattle.lines.specs.Inner.Lf.{lineStart, marks, lacks};
 ghost use Rattle.lines.specs.Inner.Out.{Wrote};
 ghost use Rattle.lines.specs.Steps.{dropCr, splitLines, joined, overFrom};
 

@@ -1,21 +1,19 @@
 -- A pass that writes its lines one by one notes the moves of its acts: by where it wrote. Assumes nothing.
-use Prim.Native.Nat.{ℕ, zero, suc, _+_, _≤_, _<_}
+use Prim.Native.Nat.{ℕ, suc, _+_, _≤_, _<_}
 use mathlib.Core.Path.{_≡_, refl, sym, ap, subst, _∙_}
 use mathlib.Core.Bool.{Bool, true, false}
-use mathlib.Core.List.{List, [], _∷_, _++_}
+use mathlib.Core.List.{List, [], _∷_}
 use native.Mathlib.Omega.{arith}
 use borrow.Author.Tests.{eq-eqb, ne-eqb}
 use native.Mathlib.Nat.{add-zero}
 use native.Mathlib.Numerals.{add-one}
-use lib.ListN.{length, set, length-append, replicate, length-map}
+use lib.ListN.{length, set, length-append, replicate}
 use Rattle.lines.specs.Acts.{Act, keep, become, into, gone, act}
-use Rattle.lines.specs.Lf.{unlines, all, linesOf, countOf}
+use Rattle.lines.specs.Lf.{unlines, all}
 use Rattle.lines.specs.Inner.Out.{Wrote}
-use Rattle.lines.specs.Steps.{dropCr, splitLines}
 use Rattle.lines.proofs.Tests.{no}
 use Rattle.lines.proofs.ActLaws.{keeps}
-use Rattle.lines.proofs.OutLaws.{wrote-as, wrote-nil, wrote-more}
-use Rattle.lines.proofs.Counts.{drop-counts}
+use Rattle.lines.proofs.OutLaws.{wrote-as, wrote-nil, wrote-more, zeros-more}
 use Rattle.origins.specs.Inner.Codes.{moveOf, movesOf, noteOf}
 
 -- a line stays, becomes another or is gone
@@ -47,11 +45,6 @@ moves-stay (become x ∷ more) h = no h
 moves-stay (into n ∷ more) h = no h
 moves-stay (gone ∷ more) h = no h
 
--- a text has as many lines with its CRs as without
-pub split-lines : (t : List ℕ) → length (splitLines t) ≡ length (linesOf t)
-unfolding splitLines
-split-lines t = sym (length-map (linesOf (dropCr t)) (countOf 0)) ∙ ap length (drop-counts 0 refl t) ∙ length-map (linesOf t) (countOf 0)
-
 -- the place after the moves of acts is their number
 pub moves-end : (acts : List Act) {d d′ : List ℕ} {r : ℕ} (n : ℕ) → length acts ≡ n → Wrote d 0 (movesOf acts) d′ r → Wrote d 0 (movesOf acts) d′ n
 moves-end acts {d} {d′} {r} n e w =
@@ -61,11 +54,6 @@ moves-end acts {d} {d′} {r} n e w =
 -- what was noted of lines that all stay is the moves of their acts
 pub stay-moves : (acts : List Act) {d d′ : List ℕ} {r : ℕ} (n : ℕ) → length acts ≡ n → all keeps acts ≡ true → Wrote d 0 (replicate n 0) d′ r → Wrote d 0 (movesOf acts) d′ n
 stay-moves acts n e h w = moves-end acts n e (wrote-as (ap (λ (j : ℕ). replicate j 0) (sym e) ∙ sym (moves-stay acts h)) w)
-
--- one more of the lines that stay
-pub zeros-more : (i : ℕ) → replicate i 0 ++ (0 ∷ []) ≡ replicate {A = ℕ} (suc i) 0
-zeros-more zero = refl
-zeros-more (suc i) = ap (λ (l : List ℕ). 0 ∷ l) (zeros-more i)
 
 -- ---- the loop of `stay`
 

@@ -10,11 +10,11 @@ use lib.Dec.{eqb, leb, ltb}
 use lib.ListN.{length, take, drop, getD, length-append, length-take, length-drop, take-append-drop}
 use lib.Seq.{take-add, take-at, drop-at, drop-drop, drop-append-add, getD-drop, getD-append-seam, drop-cons}
 use Rattle.lines.proofs.Tests.{no, and-left, and-right, and-both}
-use Rattle.lines.specs.Lf.{all}
+use Rattle.lines.specs.Lf.{all, word}
 use Rattle.origins.specs.declared.Went.{Went}
 use Rattle.origins.specs.declared.Went.the-variants.{Equal, Changed, Inside, Away}
 use Rattle.origins.specs.Form.{Shape, goneOf, sizeOf, lowBytes, fateByte, outLine, recordBytes, recordsFrom, fileOf}
-use Rattle.origins.specs.Read.{fromLow, lineIn, fateIn, outIn, agreeBy, faultIn, wentBy, wentIn, Said, says, wrong, saidBy, readFrom, readFile}
+use Rattle.origins.specs.Read.{lineIn, fateIn, outIn, agreeBy, faultIn, wentBy, wentIn, Said, says, wrong, saidBy, readFrom, readFile}
 use Rattle.origins.specs.Answers.{fitsOut, fits, fitsFrom}
 
 -- ---- numbers
@@ -25,8 +25,8 @@ low-length zero n = refl
 low-length (suc w) n = ap suc (low-length w (n / 256))
 
 -- a number that fits reads back
-pub number-back : (w n : ℕ) → n < 256 ^ w → fromLow (lowBytes w n) ≡ n
-unfolding lowBytes fromLow
+pub number-back : (w n : ℕ) → n < 256 ^ w → word (lowBytes w n) ≡ n
+unfolding lowBytes word
 number-back zero n h = omega arith
 number-back (suc w) n h = rw (number-back w (n / 256) (omega arith)) (omega arith)
 
@@ -38,22 +38,22 @@ abbrev pub bytes : List ℕ → Bool
 bytes s = all isByte s
 
 -- and bytes are written as they were read
-pub bytes-back : (s : List ℕ) → bytes s ≡ true → lowBytes (length s) (fromLow s) ≡ s
-unfolding lowBytes fromLow
+pub bytes-back : (s : List ℕ) → bytes s ≡ true → lowBytes (length s) (word s) ≡ s
+unfolding lowBytes word
 bytes-back [] h = refl
 bytes-back (x ∷ s) h =
     let k : x < 256 = ltb-true x 256 (and-left (isByte x) (bytes s) h) in
-    let q : (fromLow s * 256 + x) % 256 ≡ x = omega arith in
-    let r : (fromLow s * 256 + x) / 256 ≡ fromLow s = omega arith in
+    let q : (word s * 256 + x) % 256 ≡ x = omega arith in
+    let r : (word s * 256 + x) / 256 ≡ word s = omega arith in
     rw (q, r) (ap (λ (t : List ℕ). x ∷ t) (bytes-back s (and-right (isByte x) (bytes s) h)))
 
-pub number-less : (s : List ℕ) → bytes s ≡ true → fromLow s < 256 ^ length s
-unfolding fromLow
+pub number-less : (s : List ℕ) → bytes s ≡ true → word s < 256 ^ length s
+unfolding word
 number-less [] h = omega arith
 number-less (x ∷ s) h =
     let k : x < 256 = ltb-true x 256 (and-left (isByte x) (bytes s) h) in
     let q = number-less s (and-right (isByte x) (bytes s) h) in
-    let g : fromLow s * 256 + x < 256 ^ suc (length s) = omega arith in
+    let g : word s * 256 + x < 256 ^ suc (length s) = omega arith in
     g
 
 pub bytes-drop : (n : ℕ) (s : List ℕ) → bytes s ≡ true → bytes (drop n s) ≡ true
@@ -87,8 +87,8 @@ module _ (F : Shape) (i : ℕ) (w : Went) (rest : List ℕ) where
 
   line-back : i < 256 ^ F .width → lineIn F whole ≡ i
   line-back h =
-      ap (λ (s : List ℕ). fromLow (take (F .width) s)) behind-mark
-      ∙ ap fromLow (take-at (lowBytes (F .width) i) (fateByte w ∷ (lowBytes (F .width) (outLine F w) ++ rest)) (F .width) (low-length (F .width) i))
+      ap (λ (s : List ℕ). word (take (F .width) s)) behind-mark
+      ∙ ap word (take-at (lowBytes (F .width) i) (fateByte w ∷ (lowBytes (F .width) (outLine F w) ++ rest)) (F .width) (low-length (F .width) i))
       ∙ number-back (F .width) i h
 
   fate-back : fateIn F whole ≡ fateByte w
@@ -109,8 +109,8 @@ module _ (F : Shape) (i : ℕ) (w : Went) (rest : List ℕ) where
 
   out-back : outLine F w < 256 ^ F .width → outIn F whole ≡ outLine F w
   out-back h =
-      ap (λ (s : List ℕ). fromLow (take (F .width) s)) behind-fate
-      ∙ ap fromLow (take-at (lowBytes (F .width) (outLine F w)) rest (F .width) (low-length (F .width) (outLine F w)))
+      ap (λ (s : List ℕ). word (take (F .width) s)) behind-fate
+      ∙ ap word (take-at (lowBytes (F .width) (outLine F w)) rest (F .width) (low-length (F .width) (outLine F w)))
       ∙ number-back (F .width) (outLine F w) h
 
   rest-back : drop (sizeOf F) whole ≡ rest

@@ -1,18 +1,14 @@
 -- Request 7, the checks: what a record file says, or the first record that is wrong, and how. Assumes nothing.
-use Prim.Native.Nat.{ℕ, zero, suc, _+_, _*_}
+use Prim.Native.Nat.{ℕ, zero, suc, _+_}
 use Prim.Native.Char.{code}
 use mathlib.Core.Bool.{Bool, cond, not, _&&_}
 use mathlib.Core.List.{List, [], _∷_}
 use lib.ListN.{length, getD, take, drop}
 use lib.Dec.{eqb, ltb}
+use Rattle.lines.specs.Lf.{word}
 use Rattle.origins.specs.declared.Went.{Went}
 use Rattle.origins.specs.declared.Went.the-variants.{Equal, Changed, Inside, Away}
 use Rattle.origins.specs.Form.{Shape, goneOf, sizeOf, equalFate, changedFate, insideFate, goneFate}
-
--- the number in some bytes, the low byte first
-unfoldable pub fromLow : List ℕ → ℕ
-fromLow [] = 0
-fromLow (x ∷ xs) = fromLow xs * 256 + x
 
 -- ---- one record, which the bytes s begin with
 
@@ -20,13 +16,13 @@ abbrev pub isMarked : Shape → List ℕ → Bool
 isMarked F s = eqb (getD s 0 0) (code "O") && eqb (getD s 1 0) (F .letter)
 
 abbrev pub lineIn : Shape → List ℕ → ℕ
-lineIn F s = fromLow (take (F .width) (drop 2 s))
+lineIn F s = word (take (F .width) (drop 2 s))
 
 abbrev pub fateIn : Shape → List ℕ → ℕ
 fateIn F s = getD s (2 + F .width) 0
 
 abbrev pub outIn : Shape → List ℕ → ℕ
-outIn F s = fromLow (take (F .width) (drop (3 + F .width) s))
+outIn F s = word (take (F .width) (drop (3 + F .width) s))
 
 -- 5 where just one of the two says that the line is gone: its fate, its output line
 abbrev pub agreeBy : Bool → Bool → ℕ

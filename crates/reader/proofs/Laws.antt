@@ -9,6 +9,7 @@ use borrow.Author.Tests.{eq-eqb, ne-eqb, eqb-true, lt-ltb, le-ltb, ltb-false, le
 use lib.Dec.{eqb, leb, ltb}
 use lib.ListN.{length, take, drop, getD, length-drop, length-append, drop-of-length-le}
 use lib.Seq.{getD-drop, drop-drop, drop-cons}
+use Rattle.lines.specs.Lf.{word}
 use Rattle.lines.specs.Inner.Out.{Wrote, putAt}
 use Rattle.lines.proofs.Tests.{no, and-left, and-right}
 use Rattle.lines.proofs.OutLaws.{Writing, writing-start, writing-as, writing-room, writing-put, writing-end, wrote-nil}
@@ -17,7 +18,7 @@ use Rattle.origins.specs.declared.Went.the-variants.{Away}
 use Rattle.origins.specs.declared.Form.{Form}
 use Rattle.origins.specs.declared.Form.the-variants as form
 use Rattle.origins.specs.Form.{Shape, shapeOf, goneOf, sizeOf, recordBytes, recordsFrom, fileOf}
-use Rattle.origins.specs.Read.{fromLow, lineIn, fateIn, outIn, faultIn, wentIn, Said, says, wrong, saidBy, readFrom, readFile}
+use Rattle.origins.specs.Read.{lineIn, fateIn, outIn, faultIn, wentIn, Said, says, wrong, saidBy, readFrom, readFile}
 use Rattle.origins.specs.Answers.{isIn, behindFrom, behind, roomedLines, linesBy, linesFor, fitsOut, fits, fitsFrom, unfit, turnBy, turn}
 use Rattle.origins.proofs.RoundTrip.{Good, good-of, record-length, file-length}
 use Rattle.reader.specs.declared.Reply.{Reply}
@@ -30,21 +31,21 @@ use Rattle.reader.specs.Inner.Walk.{checkedFrom, oneIn}
 next : (i : ℕ) → suc i ≡ i + 1
 next i = omega arith
 
-pub two-is : (s : List ℕ) (i : ℕ) → i + 2 ≤ length s → getD s (i + 1) 0 * 256 + getD s i 0 ≡ fromLow (take 2 (drop i s))
-unfolding fromLow
+pub two-is : (s : List ℕ) (i : ℕ) → i + 2 ≤ length s → getD s (i + 1) 0 * 256 + getD s i 0 ≡ word (take 2 (drop i s))
+unfolding word
 two-is s i h =
     let q : drop i s ≡ getD s i 0 ∷ getD s (i + 1) 0 ∷ drop (suc (suc i)) s = drop-cons s i 0 (omega arith) ∙ ap (λ (t : List ℕ). getD s i 0 ∷ t) (drop-cons s (suc i) 0 (omega arith) ∙ ap (λ (k : ℕ). getD s k 0 ∷ drop (suc (suc i)) s) (next i)) in
     rw q (omega arith)
 
-two-of : (a b : ℕ) (t : List ℕ) → fromLow (take 2 (a ∷ b ∷ t)) ≡ b * 256 + a
-unfolding fromLow
+two-of : (a b : ℕ) (t : List ℕ) → word (take 2 (a ∷ b ∷ t)) ≡ b * 256 + a
+unfolding word
 two-of a b t = omega arith
 
-four-of : (a b : ℕ) (t : List ℕ) → fromLow (take 4 (a ∷ b ∷ t)) ≡ (fromLow (take 2 t) * 256 + b) * 256 + a
-unfolding fromLow
+four-of : (a b : ℕ) (t : List ℕ) → word (take 4 (a ∷ b ∷ t)) ≡ (word (take 2 t) * 256 + b) * 256 + a
+unfolding word
 four-of a b t = refl
 
-pub four-is : (s : List ℕ) (i : ℕ) → i + 4 ≤ length s → fromLow (take 2 (drop (i + 2) s)) * 65536 + fromLow (take 2 (drop i s)) ≡ fromLow (take 4 (drop i s))
+pub four-is : (s : List ℕ) (i : ℕ) → i + 4 ≤ length s → word (take 2 (drop (i + 2) s)) * 65536 + word (take 2 (drop i s)) ≡ word (take 4 (drop i s))
 four-is s i h = go (getD s i 0) (getD s (i + 1) 0) (drop (i + 2) s) q
   where
     q : drop i s ≡ getD s i 0 ∷ getD s (i + 1) 0 ∷ drop (i + 2) s
@@ -53,25 +54,25 @@ four-is s i h = go (getD s i 0) (getD s (i + 1) 0) (drop (i + 2) s) q
     by : (a b w v : ℕ) → v ≡ b * 256 + a → w * 65536 + v ≡ (w * 256 + b) * 256 + a
     by a b w v e = omega arith
 
-    two : (a b : ℕ) (t : List ℕ) → fromLow (take 2 (a ∷ b ∷ t)) ≡ b * 256 + a
+    two : (a b : ℕ) (t : List ℕ) → word (take 2 (a ∷ b ∷ t)) ≡ b * 256 + a
     two a b t = two-of a b t
 
-    go : (a b : ℕ) (t : List ℕ) → drop i s ≡ a ∷ b ∷ t → fromLow (take 2 t) * 65536 + fromLow (take 2 (drop i s)) ≡ fromLow (take 4 (drop i s))
-    go a b t e = rw e (by a b (fromLow (take 2 t)) (fromLow (take 2 (a ∷ b ∷ t))) (two a b t) ∙ sym (four-of a b t))
+    go : (a b : ℕ) (t : List ℕ) → drop i s ≡ a ∷ b ∷ t → word (take 2 t) * 65536 + word (take 2 (drop i s)) ≡ word (take 4 (drop i s))
+    go a b t e = rw e (by a b (word (take 2 t)) (word (take 2 (a ∷ b ∷ t))) (two a b t) ∙ sym (four-of a b t))
 
 pub width-as : (f : Form) {x : Form} → f ≡ x → shapeOf x .width ≡ shapeOf f .width
 width-as f e = ap (λ (y : Form). shapeOf y .width) (sym e)
 
-pub number-as : (f : Form) {x : Form} (s : List ℕ) (i : ℕ) → f ≡ x → fromLow (take (shapeOf x .width) (drop i s)) ≡ fromLow (take (shapeOf f .width) (drop i s))
-number-as f s i e = ap (λ (k : ℕ). fromLow (take k (drop i s))) (width-as f e)
+pub number-as : (f : Form) {x : Form} (s : List ℕ) (i : ℕ) → f ≡ x → word (take (shapeOf x .width) (drop i s)) ≡ word (take (shapeOf f .width) (drop i s))
+number-as f s i e = ap (λ (k : ℕ). word (take k (drop i s))) (width-as f e)
 
-pub line-is : (F : Shape) (s : List ℕ) (o : ℕ) → fromLow (take (F .width) (drop (o + 2) s)) ≡ lineIn F (drop o s)
-line-is F s o = ap (λ (t : List ℕ). fromLow (take (F .width) t)) (sym (drop-drop 2 o s))
+pub line-is : (F : Shape) (s : List ℕ) (o : ℕ) → word (take (F .width) (drop (o + 2) s)) ≡ lineIn F (drop o s)
+line-is F s o = ap (λ (t : List ℕ). word (take (F .width) t)) (sym (drop-drop 2 o s))
 
-pub out-is : (F : Shape) (s : List ℕ) (o w : ℕ) → w ≡ F .width → fromLow (take (F .width) (drop (o + 3 + w) s)) ≡ outIn F (drop o s)
+pub out-is : (F : Shape) (s : List ℕ) (o w : ℕ) → w ≡ F .width → word (take (F .width) (drop (o + 3 + w) s)) ≡ outIn F (drop o s)
 out-is F s o w e =
     let q : o + 3 + w ≡ o + (3 + F .width) = omega arith in
-    ap (λ (k : ℕ). fromLow (take (F .width) (drop k s))) q ∙ ap (λ (t : List ℕ). fromLow (take (F .width) t)) (sym (drop-drop (3 + F .width) o s))
+    ap (λ (k : ℕ). word (take (F .width) (drop k s))) q ∙ ap (λ (t : List ℕ). word (take (F .width) t)) (sym (drop-drop (3 + F .width) o s))
 
 pub fate-is : (F : Shape) (s : List ℕ) (o w : ℕ) → w ≡ F .width → getD s (o + 2 + w) 0 ≡ fateIn F (drop o s)
 fate-is F s o w e =

@@ -4,10 +4,11 @@ ghost use mathlib.Core.Bool.{cond};
 ghost use Prim.Native.Nat.{_≤_, _<_, _+_, _*_};
 ghost use lib.Dec.{eqb};
 ghost use lib.ListN.{length, getD, take, drop};
+ghost use Rattle.lines.specs.Lf.{word};
 ghost use Rattle.lines.specs.Inner.Out.{Wrote};
 ghost use Rattle.origins.specs.declared.Went.the-variants.{Away};
 ghost use Rattle.origins.specs.Form.{shapeOf, sizeOf, fileOf};
-ghost use Rattle.origins.specs.Read.{fromLow, lineIn, fateIn, outIn, faultIn, wentBy, wentIn, says, readFile};
+ghost use Rattle.origins.specs.Read.{lineIn, fateIn, outIn, faultIn, wentBy, wentIn, says, readFile};
 ghost use Rattle.origins.specs.Answers.{isIn, behind, roomedLines, linesFor, fits, unfit, turnBy, turn};
 ghost use Rattle.reader.specs.Replies.{numberOf, placeOf, countOf, formIn, refusal, checkReply, linesReply, linesAfter, turnedReply, turnedAfter, wentsIn};
 ghost use Rattle.reader.specs.Inner.Walk.{oneIn};
@@ -89,7 +90,7 @@ pub fn form_of(file: &[u8]) -> origins::Form
 // The number in two bytes, the low byte first.
 fn two_at(s: &[u8], i: usize) -> usize
     requires { ⌜ i + 2 ≤ length (now s) ⌝ }
-    ensures value { λ r. ⌜ r ≡ fromLow (take 2 (drop i (now (s .entry)))) ⌝ }
+    ensures value { λ r. ⌜ r ≡ word (take 2 (drop i (now (s .entry)))) ⌝ }
     ensures small { λ r. ⌜ r < 65536 ⌝ }
 {
     let a = s[i] as usize;
@@ -100,7 +101,7 @@ fn two_at(s: &[u8], i: usize) -> usize
 // The number of a line, in the bytes of a form.
 fn number_at(f: origins::Form, s: &[u8], i: usize) -> usize
     requires { ⌜ i + shapeOf f .width ≤ length (now s) ⌝ }
-    ensures { λ r. ⌜ r ≡ fromLow (take (shapeOf f .width) (drop i (now (s .entry)))) ⌝ }
+    ensures { λ r. ⌜ r ≡ word (take (shapeOf f .width) (drop i (now (s .entry)))) ⌝ }
 {
     match f {
         origins::Form::Ol => two_at(s, i),

@@ -11,11 +11,6 @@ unfoldable pub lineStart : List ℕ → ℕ → ℕ
 lineStart s zero = 0
 lineStart s (suc j) = cond (eqb (getD s j 0) (code "\n")) (suc j) (lineStart s j)
 
--- the number that bytes are, the first of them lowest
-unfoldable pub word : List ℕ → ℕ
-word [] = 0
-word (x ∷ xs) = word xs * 256 + x
-
 -- which bytes are b, as a number: 128 in the place of each of these, 0 in the place of another
 unfoldable pub marks : ℕ → List ℕ → ℕ
 marks b [] = 0

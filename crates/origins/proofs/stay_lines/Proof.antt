@@ -5,7 +5,7 @@ use mathlib.Core.Path.{ap, _∙_}
 use Prim.Native.Nat.{ℕ}
 use lib.ListN.{replicate}
 use Rattle.lines.proofs.OutLaws.{wrote-as}
-use Rattle.origins.proofs.Notes.{split-lines}
+use Rattle.lines.proofs.Counts.{split-lines}
 use Rattle.origins.proofs.stay_lines.Statement.{statement}
 use Rattle.origins.proofs.stay_lines.Tie as tie
 
