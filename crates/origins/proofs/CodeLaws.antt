@@ -11,7 +11,7 @@ use Rattle.lines.proofs.Tests.{and-left, and-right}
 use Rattle.lines.specs.Acts.{Act, keep, become, into, gone}
 use Rattle.lines.specs.Lf.{all}
 use Rattle.origins.specs.Fates.{Fate, at, held, lost, taken, fateAt, fatesGo, onward, follow}
-use Rattle.origins.specs.Inner.Codes.{far, moveOf, movesOf, half, codeOf, codesOf, takenCode, landGo, onCode, through}
+use Rattle.origins.specs.Inner.Codes.{far, moveOf, movesOf, half, codeOf, codesOf, takenCode, landGo, onCode, through, standing}
 use Rattle.origins.proofs.FateLaws.{outs, under, Under, cons, under-at, fates-under, fates-length}
 
 -- a line is not taken into itself, and not further down than a table tells
@@ -69,6 +69,16 @@ land-fates (into n ∷ more) o s h =
     land-into n (movesOf more) (fatesGo more o) o (ltb-true 0 n (and-left (ltb 0 n) (all sound more) s)) (fates-under more o half (omega (arith, outs-le more)))
     (land-fates more o (and-right (ltb 0 n) (all sound more) s) (omega arith))
 land-fates (gone ∷ more) o s h = land-gone (movesOf more) (fatesGo more o) o (omega (arith, fates-length more o)) (land-fates more o s (omega arith))
+
+-- as many lines stand, by their moves, as come out
+pub standing-outs : (acts : List Act) → all sound acts ≡ true → standing (movesOf acts) ≡ outs acts
+unfolding standing movesOf moveOf outs
+standing-outs [] s = refl
+standing-outs (keep ∷ more) s = ap suc (standing-outs more s)
+standing-outs (become x ∷ more) s = ap suc (standing-outs more s)
+standing-outs (into n ∷ more) s =
+    rw (ne-eqb n 0 (omega (arith, ltb-true 0 n (and-left (ltb 0 n) (all sound more) s)))) (standing-outs more (and-right (ltb 0 n) (all sound more) s))
+standing-outs (gone ∷ more) s = standing-outs more s
 
 far-taken : takenCode far ≡ far
 unfolding takenCode

@@ -15,6 +15,8 @@ use Rattle.lines.proofs.Tests.{no, and-left, and-right, and-both}
 use Rattle.origins.specs.Fates.{Fate, lost, fateAt, fatesGo, fatesOf, onward, follow}
 use Rattle.origins.specs.Inner.Codes.{far, moveOf, movesOf, standing}
 use Rattle.origins.specs.Inner.Thin.{stays, onAct, thenActs, thin}
+use Rattle.origins.proofs.FateLaws.{outs-apply}
+use Rattle.origins.proofs.CodeLaws.{sound, standing-outs}
 use Rattle.origins.proofs.Notes.{plainly}
 
 -- ---- one list of acts after the other is the one and then the other
@@ -91,15 +93,16 @@ then-moves (become x ∷ more) (b ∷ bs) h = ap (λ (n : ℕ). n ∷ movesOf (t
 then-moves (into n ∷ more) (b ∷ bs) h = no h
 then-moves (gone ∷ more) (b ∷ bs) h = ap (λ (r : List ℕ). far ∷ r) (then-moves more (b ∷ bs) h)
 
+plain-sound : (xs : List Act) → all plainly xs ≡ true → all sound xs ≡ true
+plain-sound [] h = refl
+plain-sound (keep ∷ more) h = plain-sound more h
+plain-sound (become x ∷ more) h = plain-sound more h
+plain-sound (into n ∷ more) h = no h
+plain-sound (gone ∷ more) h = plain-sound more h
+
 -- the lines that stand
 pub standing-acts : (xs : List Act) (ls : List (List ℕ)) → all plainly xs ≡ true → length xs ≡ length ls → standing (movesOf xs) ≡ length (apply xs ls)
-unfolding standing movesOf moveOf apply act
-standing-acts [] ls h k = refl
-standing-acts (a ∷ more) [] h k = absurd (omega arith)
-standing-acts (keep ∷ more) (l ∷ ls) h k = ap suc (standing-acts more ls h (omega arith))
-standing-acts (become x ∷ more) (l ∷ ls) h k = ap suc (standing-acts more ls h (omega arith))
-standing-acts (into n ∷ more) (l ∷ ls) h k = no h
-standing-acts (gone ∷ more) (l ∷ ls) h k = standing-acts more ls h (omega arith)
+standing-acts xs ls h k = standing-outs xs (plain-sound xs h) ∙ sym (outs-apply xs ls k)
 
 -- ---- and the fates are those of the one followed by those of the other
 
