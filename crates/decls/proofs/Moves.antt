@@ -92,7 +92,8 @@ move-keep : (run : List (List ℕ)) (l : List ℕ) → isDecl (trimOf l) ≡ fal
 unfolding actOf moveOf
 move-keep run l e = rw e
 
-decl-plain : (indent : List ℕ) (xs : List (List ℕ)) → plainly (declAct indent xs) ≡ true
+-- a declaration stays, becomes another or is gone
+pub decl-plain : (indent : List ℕ) (xs : List (List ℕ)) → plainly (declAct indent xs) ≡ true
 unfolding declAct
 decl-plain indent [] = refl
 decl-plain indent (x ∷ xs) = refl
