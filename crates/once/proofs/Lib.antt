@@ -20,3 +20,4 @@ pub mod BackLaws
 pub mod NoteFills
 pub mod Engines
 pub mod EngineLaws
+pub mod Moves

@@ -12,3 +12,4 @@ pub mod RawLines
 pub mod Walks
 pub mod Thins
 pub mod Examples
+pub mod Sound
