@@ -25,7 +25,7 @@ use Rattle.decls.specs.Decls.{declAct}
 use Rattle.reading.specs.Reading.{Reading, plain}
 use Rattle.reading.proofs.ByLine.{ByLine}
 use Rattle.reading.specs.Uses.{usedIn}
-use Rattle.bind.specs.Bind.{Spot, spotsOf, spots, linesIn, untilHead, declCount, storeCount, firstUse, storeAt, bound, boundBy, anyBound, unboundOne, unbound, mark, markOne, markAll, marked, piecesOf, promoted, bindAct, aboveIn, bindGo, bindDeclaratorsActs, bindDeclarators}
+use Rattle.bind.specs.Bind.{BlockLine, blockLinesOf, blockLines, linesWithin, untilHead, declCount, storeCount, firstUse, storeAt, bound, boundBy, anyBound, unboundOne, unbound, mark, markOne, markAll, marked, piecesOf, promoted, bindAct, aboveIn, bindGo, bindDeclaratorsActs, bindDeclarators}
 
 -- ---- a mark is made for a line of the region
 
@@ -37,22 +37,22 @@ mark-long (suc k) zero ms h p = absurd (omega arith)
 mark-long (suc k) (suc n) [] h p = omega (arith, mark-long k n [] (omega arith) (omega arith))
 mark-long (suc k) (suc n) (m ∷ ms) h p = omega (arith, mark-long k n ms (omega arith) (omega arith))
 
-store-lt : (v b n : ℕ) (sp : List Spot) → storeAt v b (drop n sp) ≡ true → n < length sp
-store-lt v b n [] h = no (ap (λ (r : List Spot). storeAt v b r) (sym (drop-nil {A = Spot} n)) ∙ h)
+store-lt : (v b n : ℕ) (sp : List BlockLine) → storeAt v b (drop n sp) ≡ true → n < length sp
+store-lt v b n [] h = no (ap (λ (r : List BlockLine). storeAt v b r) (sym (drop-nil {A = BlockLine} n)) ∙ h)
 store-lt v b zero (s ∷ sp) h = omega arith
 store-lt v b (suc n) (s ∷ sp) h = omega (arith, store-lt v b n sp h)
 
 -- the first use of a register that is bound is a store of it
-pub bound-store : (v : ℕ) (above : List (List ℕ)) (d : Spot) (below : List Spot) → bound v above d below ≡ true → storeAt v (d .block) (drop (firstUse v below) below) ≡ true
+pub bound-store : (v : ℕ) (above : List (List ℕ)) (d : BlockLine) (below : List BlockLine) → bound v above d below ≡ true → storeAt v (d .block) (drop (firstUse v below) below) ≡ true
 unfolding bound
 bound-store v above d below h =
-    and-right (not (usedIn v above)) _ (and-right (eqb (storeCount v above + storeCount v (linesIn below)) 1) _
-    (and-right (eqb (declCount v above + (declCount v (d .line ∷ []) + declCount v (linesIn below))) 1) _ h))
+    and-right (not (usedIn v above)) _ (and-right (eqb (storeCount v above + storeCount v (linesWithin below)) 1) _
+    (and-right (eqb (declCount v above + (declCount v (d .line ∷ []) + declCount v (linesWithin below))) 1) _ h))
 
-bound-near : (v : ℕ) (above : List (List ℕ)) (d : Spot) (below : List Spot) → bound v above d below ≡ true → firstUse v below < length below
+bound-near : (v : ℕ) (above : List (List ℕ)) (d : BlockLine) (below : List BlockLine) → bound v above d below ≡ true → firstUse v below < length below
 bound-near v above d below h = store-lt v (d .block) (firstUse v below) below (bound-store v above d below h)
 
-module _ (above : List (List ℕ)) (d : Spot) (below : List Spot) where
+module _ (above : List (List ℕ)) (d : BlockLine) (below : List BlockLine) where
   one-long : (r : RegName) (ms : List Bool) → length ms ≤ length below → length (markOne r above d below ms) ≤ length below
   one-long name.None ms h = h
   one-long (name.Reg q) ms h = go (bound (q .0) above d below) (bound-near (q .0) above d below)
@@ -68,7 +68,7 @@ module _ (above : List (List ℕ)) (d : Spot) (below : List Spot) where
 
 -- ---- above a header
 
-until-above : (h : Spot) (t : List Spot) → isHeader (h .line) ≡ true → (u : List Spot) → untilHead (u ++ h ∷ t) ≡ untilHead u
+until-above : (h : BlockLine) (t : List BlockLine) → isHeader (h .line) ≡ true → (u : List BlockLine) → untilHead (u ++ h ∷ t) ≡ untilHead u
 unfolding untilHead
 until-above h t e [] = rw e
 until-above h t e (d ∷ u) = rw (until-above h t e u)
@@ -82,7 +82,7 @@ unfolding untilHead
 until-nil = refl
 
 -- the marks that a line has no use for
-drop-long : (d : Spot) (u : List Spot) (ms : List Bool) → length ms ≤ length (untilHead (d ∷ u)) → length (drop 1 ms) ≤ length (untilHead u)
+drop-long : (d : BlockLine) (u : List BlockLine) (ms : List Bool) → length ms ≤ length (untilHead (d ∷ u)) → length (drop 1 ms) ≤ length (untilHead u)
 unfolding untilHead
 drop-long d u ms h = go (isHeader (d .line)) h
   where
@@ -90,12 +90,12 @@ drop-long d u ms h = go (isHeader (d .line)) h
     go true k = omega (arith, length-drop 1 ms)
     go false k = omega (arith, length-drop 1 ms)
 
-module _ (h : Spot) (t : List Spot) (e : isHeader (h .line) ≡ true) where
+module _ (h : BlockLine) (t : List BlockLine) (e : isHeader (h .line) ≡ true) where
   at-header : (above : List (List ℕ)) → bindGo (h ∷ t) above [] ≡ bindGo (h ∷ t) [] []
   unfolding bindGo
   at-header above = rw e
 
-  go-upper : (u : List Spot) (above : List (List ℕ)) (ms : List Bool) → length ms ≤ length (untilHead u) → bindGo (u ++ h ∷ t) above ms ≡ bindGo u above ms ++ bindGo (h ∷ t) [] []
+  go-upper : (u : List BlockLine) (above : List (List ℕ)) (ms : List Bool) → length ms ≤ length (untilHead u) → bindGo (u ++ h ∷ t) above ms ≡ bindGo u above ms ++ bindGo (h ∷ t) [] []
   unfolding bindGo
   go-upper [] above ms p = ap (bindGo (h ∷ t) above) (none-left ms (omega (arith, ap length until-nil))) ∙ at-header above
   go-upper (d ∷ u) above ms p =
@@ -106,17 +106,17 @@ module _ (h : Spot) (t : List Spot) (e : isHeader (h .line) ≡ true) where
 
 -- ---- lines that are alike: the same but for the names of blocks, and for whether a header starts a statement
 
-pub data Alike (ren : ℕ → ℕ) : List Spot → List Spot → Type 0 where
+pub data Alike (ren : ℕ → ℕ) : List BlockLine → List BlockLine → Type 0 where
   none : Alike ren [] []
-  each : {s d : Spot} {ss ds : List Spot} → s .line ≡ d .line → s .block ≡ ren (d .block) → (isHeader (d .line) ≡ false → s .starts ≡ d .starts) → Alike ren ss ds → Alike ren (s ∷ ss) (d ∷ ds)
+  each : {s d : BlockLine} {ss ds : List BlockLine} → s .line ≡ d .line → s .block ≡ ren (d .block) → (isHeader (d .line) ≡ false → s .starts ≡ d .starts) → Alike ren ss ds → Alike ren (s ∷ ss) (d ∷ ds)
 
 -- and none of them is a header
-data Level (ren : ℕ → ℕ) : List Spot → List Spot → Type 0 where
+data Level (ren : ℕ → ℕ) : List BlockLine → List BlockLine → Type 0 where
   none : Level ren [] []
-  each : {s d : Spot} {ss ds : List Spot} → s .line ≡ d .line → s .block ≡ ren (d .block) → s .starts ≡ d .starts → Level ren ss ds → Level ren (s ∷ ss) (d ∷ ds)
+  each : {s d : BlockLine} {ss ds : List BlockLine} → s .line ≡ d .line → s .block ≡ ren (d .block) → s .starts ≡ d .starts → Level ren ss ds → Level ren (s ∷ ss) (d ∷ ds)
 
 module _ (ren : ℕ → ℕ) (inj : (a b : ℕ) → eqb (ren a) (ren b) ≡ eqb a b) where
-  level-until : {ss ds : List Spot} → Alike ren ss ds → Level ren (untilHead ss) (untilHead ds)
+  level-until : {ss ds : List BlockLine} → Alike ren ss ds → Level ren (untilHead ss) (untilHead ds)
   unfolding untilHead
   level-until none = none
   level-until (each {s} {d} {ss} {ds} l b st r) = go (isHeader (s .line)) (isHeader (d .line)) (ap isHeader l) refl (level-until r)
@@ -127,22 +127,22 @@ module _ (ren : ℕ → ℕ) (inj : (a b : ℕ) → eqb (ren a) (ren b) ≡ eqb 
       go true false z e k = no (sym z)
       go false true z e k = no z
 
-  level-lines : {ss ds : List Spot} → Level ren ss ds → linesIn ss ≡ linesIn ds
-  unfolding linesIn
+  level-lines : {ss ds : List BlockLine} → Level ren ss ds → linesWithin ss ≡ linesWithin ds
+  unfolding linesWithin
   level-lines none = refl
   level-lines (each l b st r) = rw (l, level-lines r)
 
-  level-first : (v : ℕ) {ss ds : List Spot} → Level ren ss ds → firstUse v ss ≡ firstUse v ds
+  level-first : (v : ℕ) {ss ds : List BlockLine} → Level ren ss ds → firstUse v ss ≡ firstUse v ds
   unfolding firstUse
   level-first v none = refl
   level-first v (each l b st r) = rw (l, level-first v r)
 
-  level-store : (v b n : ℕ) {ss ds : List Spot} → Level ren ss ds → storeAt v (ren b) (drop n ss) ≡ storeAt v b (drop n ds)
-  level-store v b n none = ap (λ (r : List Spot). storeAt v (ren b) r) (drop-nil {A = Spot} n) ∙ sym (ap (λ (r : List Spot). storeAt v b r) (drop-nil {A = Spot} n))
+  level-store : (v b n : ℕ) {ss ds : List BlockLine} → Level ren ss ds → storeAt v (ren b) (drop n ss) ≡ storeAt v b (drop n ds)
+  level-store v b n none = ap (λ (r : List BlockLine). storeAt v (ren b) r) (drop-nil {A = BlockLine} n) ∙ sym (ap (λ (r : List BlockLine). storeAt v b r) (drop-nil {A = BlockLine} n))
   level-store v b zero (each {s} {d} l k st r) = rw (l, k, inj (d .block) b, st)
   level-store v b (suc n) (each l k st r) = level-store v b n r
 
-  module _ (above : List (List ℕ)) (s d : Spot) (ss ds : List Spot) (l : s .line ≡ d .line) (b : s .block ≡ ren (d .block)) (r : Level ren ss ds) where
+  module _ (above : List (List ℕ)) (s d : BlockLine) (ss ds : List BlockLine) (l : s .line ≡ d .line) (b : s .block ≡ ren (d .block)) (r : Level ren ss ds) where
     same-bound : (v : ℕ) → bound v above s ss ≡ bound v above d ds
     unfolding bound
     same-bound v = rw (l, b, level-lines r, level-first v r, level-store v (d .block) (firstUse v ds) r)
@@ -181,7 +181,7 @@ module _ (ren : ℕ → ℕ) (inj : (a b : ℕ) → eqb (ren a) (ren b) ≡ eqb 
         ∙ ap (λ (x : List (List ℕ)). cond (anyBound (piecesOf (s .line)) above d ds) (declAct (take (fromOf (s .line)) (s .line)) x) (cond m (become (promoted (s .line))) keep)) (same-unbound (piecesOf (s .line)))
         ∙ ap (λ (x : List ℕ). cond (anyBound (piecesOf x) above d ds) (declAct (take (fromOf x) x) (unbound (piecesOf x) above d ds)) (cond m (become (promoted x)) keep)) l
 
-  pub same-go : {ss ds : List Spot} → Alike ren ss ds → (above : List (List ℕ)) (ms : List Bool) → bindGo ss above ms ≡ bindGo ds above ms
+  pub same-go : {ss ds : List BlockLine} → Alike ren ss ds → (above : List (List ℕ)) (ms : List Bool) → bindGo ss above ms ≡ bindGo ds above ms
   unfolding bindGo
   same-go none above ms = refl
   same-go (each {s} {d} {ss} {ds} l b st r) above ms =
@@ -195,26 +195,26 @@ module _ (ren : ℕ → ℕ) (inj : (a b : ℕ) → eqb (ren a) (ren b) ≡ eqb 
 
 -- ---- the spots of two runs of lines, one after the other
 
-spots-append : (us ts : List (List ℕ)) (bu bt : List ℕ) (su st : List Bool) → length bu ≡ length us → length su ≡ length us → spotsOf (us ++ ts) (bu ++ bt) (su ++ st) ≡ spotsOf us bu su ++ spotsOf ts bt st
-unfolding spotsOf
+spots-append : (us ts : List (List ℕ)) (bu bt : List ℕ) (su st : List Bool) → length bu ≡ length us → length su ≡ length us → blockLinesOf (us ++ ts) (bu ++ bt) (su ++ st) ≡ blockLinesOf us bu su ++ blockLinesOf ts bt st
+unfolding blockLinesOf
 spots-append [] ts [] bt [] st p q = refl
 spots-append [] ts (b ∷ bu) bt su st p q = absurd (omega arith)
 spots-append [] ts [] bt (s ∷ su) st p q = absurd (omega arith)
 spots-append (l ∷ us) ts [] bt su st p q = absurd (omega arith)
 spots-append (l ∷ us) ts (b ∷ bu) bt [] st p q = absurd (omega arith)
-spots-append (l ∷ us) ts (b ∷ bu) bt (s ∷ su) st p q = let d : Spot = record { line = l; block = b; starts = s } in ap (λ (r : List Spot). d ∷ r) (spots-append us ts bu bt su st (omega arith) (omega arith))
+spots-append (l ∷ us) ts (b ∷ bu) bt (s ∷ su) st p q = let d : BlockLine = record { line = l; block = b; starts = s } in ap (λ (r : List BlockLine). d ∷ r) (spots-append us ts bu bt su st (omega arith) (omega arith))
 
 -- the same lines with blocks renamed
-alike-renamed : (t d : ℕ) (ls : List (List ℕ)) (bs : List ℕ) (ss : List Bool) → Alike (rename t d) (spotsOf ls (renamed t d bs) ss) (spotsOf ls bs ss)
-unfolding spotsOf renamed
+alike-renamed : (t d : ℕ) (ls : List (List ℕ)) (bs : List ℕ) (ss : List Bool) → Alike (rename t d) (blockLinesOf ls (renamed t d bs) ss) (blockLinesOf ls bs ss)
+unfolding blockLinesOf renamed
 alike-renamed t d [] bs ss = none
 alike-renamed t d (l ∷ ls) [] ss = none
 alike-renamed t d (l ∷ ls) (b ∷ bs) [] = none
 alike-renamed t d (l ∷ ls) (b ∷ bs) (s ∷ ss) = each refl refl (λ e. refl) (alike-renamed t d ls bs ss)
 
 -- and with another start of the first, where it is a header
-alike-header : (t d : ℕ) (l : List ℕ) (ls : List (List ℕ)) (bs : List ℕ) (a b : Bool) (ss : List Bool) → isHeader l ≡ true → Alike (rename t d) (spotsOf (l ∷ ls) (renamed t d bs) (a ∷ ss)) (spotsOf (l ∷ ls) bs (b ∷ ss))
-unfolding spotsOf renamed
+alike-header : (t d : ℕ) (l : List ℕ) (ls : List (List ℕ)) (bs : List ℕ) (a b : Bool) (ss : List Bool) → isHeader l ≡ true → Alike (rename t d) (blockLinesOf (l ∷ ls) (renamed t d bs) (a ∷ ss)) (blockLinesOf (l ∷ ls) bs (b ∷ ss))
+unfolding blockLinesOf renamed
 alike-header t d l ls [] a b ss e = none
 alike-header t d l ls (x ∷ bs) a b ss e = each refl refl (λ f. no (sym f ∙ e)) (alike-renamed t d ls bs ss)
 
@@ -225,13 +225,13 @@ map-length f [] = refl
 map-length f (x ∷ xs) = ap suc (map-length f xs)
 
 -- one act for each line
-go-length : (sp : List Spot) (above : List (List ℕ)) (ms : List Bool) → length (bindGo sp above ms) ≡ length sp
+go-length : (sp : List BlockLine) (above : List (List ℕ)) (ms : List Bool) → length (bindGo sp above ms) ≡ length sp
 unfolding bindGo
 go-length [] above ms = refl
 go-length (d ∷ sp) above ms = ap suc (go-length sp (d .line ∷ aboveIn d above) (markAll (piecesOf (d .line)) (aboveIn d above) d (untilHead sp) (drop 1 ms)))
 
-spots-length : (ls : List (List ℕ)) (bs : List ℕ) (ss : List Bool) → length bs ≡ length ls → length ss ≡ length ls → length (spotsOf ls bs ss) ≡ length ls
-unfolding spotsOf
+spots-length : (ls : List (List ℕ)) (bs : List ℕ) (ss : List Bool) → length bs ≡ length ls → length ss ≡ length ls → length (blockLinesOf ls bs ss) ≡ length ls
+unfolding blockLinesOf
 spots-length [] bs ss p q = refl
 spots-length (l ∷ ls) [] ss p q = absurd (omega arith)
 spots-length (l ∷ ls) (b ∷ bs) [] p q = absurd (omega arith)
@@ -246,11 +246,11 @@ unfolding bindGo
 go-none = refl
 
 -- spots above those of lines whose first is a header
-upper-go : (sp : List Spot) (h : List ℕ) (ts : List (List ℕ)) (bs : List ℕ) (s : Bool) (ss : List Bool) → isHeader h ≡ true →
-    bindGo (sp ++ spotsOf (h ∷ ts) bs (s ∷ ss)) [] [] ≡ bindGo sp [] [] ++ bindGo (spotsOf (h ∷ ts) bs (s ∷ ss)) [] []
-unfolding spotsOf
-upper-go sp h ts [] s ss e = ap (λ (r : List Spot). bindGo r [] []) (append-nil sp) ∙ sym (ap (λ (r : List Act). bindGo sp [] [] ++ r) go-none ∙ append-nil (bindGo sp [] []))
-upper-go sp h ts (b ∷ bs) s ss e = go-upper (record { line = h; block = b; starts = s }) (spotsOf ts bs ss) e sp [] [] (omega arith)
+upper-go : (sp : List BlockLine) (h : List ℕ) (ts : List (List ℕ)) (bs : List ℕ) (s : Bool) (ss : List Bool) → isHeader h ≡ true →
+    bindGo (sp ++ blockLinesOf (h ∷ ts) bs (s ∷ ss)) [] [] ≡ bindGo sp [] [] ++ bindGo (blockLinesOf (h ∷ ts) bs (s ∷ ss)) [] []
+unfolding blockLinesOf
+upper-go sp h ts [] s ss e = ap (λ (r : List BlockLine). bindGo r [] []) (append-nil sp) ∙ sym (ap (λ (r : List Act). bindGo sp [] [] ++ r) go-none ∙ append-nil (bindGo sp [] []))
+upper-go sp h ts (b ∷ bs) s ss e = go-upper (record { line = h; block = b; starts = s }) (blockLinesOf ts bs ss) e sp [] [] (omega arith)
 
 module _ {R : Reading} (c : ByLine R) where
   pub clean-long : (ls : List (List ℕ)) → length (R .clean ls) ≡ length ls
@@ -272,37 +272,37 @@ module _ {R : Reading} (c : ByLine R) where
         ∙ ap (λ (ls : List (List ℕ)). startsGo (R .clean us) true ++ startsBelow (R .clean us) true ∷ drop 1 (startsGo ls true)) (sym tail-clean)
 
     -- the tail's spots below the upper lines
-    lower : List Spot
-    lower = spotsOf (h ∷ ts) (renamed (blockBelow (R .clean us)) (nextBelow (R .clean us)) (blocks (R .clean (h ∷ ts)))) (startsBelow (R .clean us) true ∷ drop 1 (startsGo (R .clean (h ∷ ts)) true))
+    lower : List BlockLine
+    lower = blockLinesOf (h ∷ ts) (renamed (blockBelow (R .clean us)) (nextBelow (R .clean us)) (blocks (R .clean (h ∷ ts)))) (startsBelow (R .clean us) true ∷ drop 1 (startsGo (R .clean (h ∷ ts)) true))
 
-    spots-are : spots R (us ++ h ∷ ts) ≡ spots R us ++ lower
-    unfolding spots lower
+    spots-are : blockLines R (us ++ h ∷ ts) ≡ blockLines R us ++ lower
+    unfolding blockLines lower
     spots-are =
         rw (blocks-are, starts-are)
         (spots-append us (h ∷ ts) (blocks (R .clean us)) _ (startsGo (R .clean us) true) _ (length-blocks (R .clean us) ∙ clean-long us) (length-starts (R .clean us) true ∙ clean-long us))
 
-    lower-alike : Alike (rename (blockBelow (R .clean us)) (nextBelow (R .clean us))) lower (spots R (h ∷ ts))
-    unfolding spots lower
+    lower-alike : Alike (rename (blockBelow (R .clean us)) (nextBelow (R .clean us))) lower (blockLines R (h ∷ ts))
+    unfolding blockLines lower
     lower-alike =
         rw (tail-clean, ← starts-first (c .one h) (map (c .one) ts))
         (alike-header (blockBelow (R .clean us)) (nextBelow (R .clean us)) h ts (blocks (c .one h ∷ map (c .one) ts)) (startsBelow (R .clean us) true) true (drop 1 (startsGo (c .one h ∷ map (c .one) ts) true)) e)
 
-    acts-go : bindGo (spots R us ++ lower) [] [] ≡ bindGo (spots R us) [] [] ++ bindGo lower [] []
+    acts-go : bindGo (blockLines R us ++ lower) [] [] ≡ bindGo (blockLines R us) [] [] ++ bindGo lower [] []
     unfolding lower
     acts-go =
-        upper-go (spots R us) h ts (renamed (blockBelow (R .clean us)) (nextBelow (R .clean us)) (blocks (R .clean (h ∷ ts)))) (startsBelow (R .clean us) true) (drop 1 (startsGo (R .clean (h ∷ ts)) true)) e
+        upper-go (blockLines R us) h ts (renamed (blockBelow (R .clean us)) (nextBelow (R .clean us)) (blocks (R .clean (h ∷ ts)))) (startsBelow (R .clean us) true) (drop 1 (startsGo (R .clean (h ∷ ts)) true)) e
 
     acts-at : bindDeclaratorsActs R (us ++ h ∷ ts) ≡ bindDeclaratorsActs R us ++ bindDeclaratorsActs R (h ∷ ts)
     unfolding bindDeclaratorsActs
     acts-at =
-        ap (λ (sp : List Spot). bindGo sp [] []) spots-are ∙ acts-go
-        ∙ ap (λ (r : List Act). bindGo (spots R us) [] [] ++ r)
+        ap (λ (sp : List BlockLine). bindGo sp [] []) spots-are ∙ acts-go
+        ∙ ap (λ (r : List Act). bindGo (blockLines R us) [] [] ++ r)
         (same-go (rename (blockBelow (R .clean us)) (nextBelow (R .clean us))) (λ a b. same-renamed (blockBelow (R .clean us)) (nextBelow (R .clean us)) a b (below-lt (R .clean us))) lower-alike [] [])
 
   -- one act for each line
   pub bind-length : (ls : List (List ℕ)) → length (bindDeclaratorsActs R ls) ≡ length ls
-  unfolding bindDeclaratorsActs spots
-  bind-length ls = go-length (spots R ls) [] [] ∙ spots-length ls (blocks (R .clean ls)) (startsGo (R .clean ls) true) (length-blocks (R .clean ls) ∙ clean-long ls) (length-starts (R .clean ls) true ∙ clean-long ls)
+  unfolding bindDeclaratorsActs blockLines
+  bind-length ls = go-length (blockLines R ls) [] [] ∙ spots-length ls (blocks (R .clean ls)) (startsGo (R .clean ls) true) (length-blocks (R .clean ls) ∙ clean-long ls) (length-starts (R .clean ls) true ∙ clean-long ls)
 
   -- demand 3, of acts
   pub bind-acts-cut : (upper tail : List (List ℕ)) → headed tail ≡ true → own (R .clean tail) ≡ true →

@@ -28,7 +28,7 @@ use Rattle.reading.specs.Assign.{isAssign, leftOf, rightOf}
 use Rattle.reading.specs.Inner.Assign.{assignOf}
 use Rattle.reading.specs.Uses.{lineReads, lineStores, lineUses, usedIn}
 use Rattle.decls.specs.Decls.{commas, declAct, keepNames, actOf, actsGo, pruneDeclsActs, pruneDecls}
-use Rattle.bind.specs.Bind.{spotsOf, spots, linesIn, untilHead, pieceCount, declCount, storeCount, firstUse, bound, anyBound, unbound, mark, markAll, piecesOf, bindAct, bindGo, bindDeclaratorsActs, bindDeclarators}
+use Rattle.bind.specs.Bind.{blockLinesOf, blockLines, linesWithin, untilHead, pieceCount, declCount, storeCount, firstUse, bound, anyBound, unbound, mark, markAll, piecesOf, bindAct, bindGo, bindDeclaratorsActs, bindDeclarators}
 use Rattle.reading.specs.Reading.{plain}
 
 -- the lines of a listing, and what they become
@@ -59,7 +59,7 @@ rows =
     ∷ []
 
 pub examples : map (λ (r : Row). bindDeclarators plain (r .lines)) rows ≡ map (λ (r : Row). r .result) rows
-unfolding rows upTo countOf prefixed suffixed same holds cutOn linesOf partsOf unlines lacks noLf act apply isWhite seqLen scan utf8Of whiteChar whiteHead whiteTail lead fromOf endWhite toOf trimOf numbered readNumber zeros decimalBy decimal numberAfter regOf phiOf isTemp isIdent allRegs isDecl storeIn parseOf textOf runsGo runs countBy upBy walkRuns runHits hitsGo hits oneHit regHit afterNew asTarget glueLeft glueRight glued replacedAt replaceReg quoteLen patternLen commentLen lastOf tokenOf tokenAt lexGo stripLexical tailOf pushed grown cleanStep isHeader headed regionsGo regions regionNext untilHeader region regionAt upHeader braceOf push count top stackAfter nextAfter blocksGo blocks cleaned mayAt depthAt depthAfter ownLine ownGo own startsAfter startsByLast startsAbove startsGo isAssign leftOf rightOf assignOf lineReads lineStores lineUses usedIn commas declAct keepNames actOf actsGo pruneDeclsActs pruneDecls spotsOf spots linesIn untilHead pieceCount declCount storeCount firstUse bound anyBound unbound mark markAll piecesOf bindAct bindGo bindDeclaratorsActs bindDeclarators
+unfolding rows upTo countOf prefixed suffixed same holds cutOn linesOf partsOf unlines lacks noLf act apply isWhite seqLen scan utf8Of whiteChar whiteHead whiteTail lead fromOf endWhite toOf trimOf numbered readNumber zeros decimalBy decimal numberAfter regOf phiOf isTemp isIdent allRegs isDecl storeIn parseOf textOf runsGo runs countBy upBy walkRuns runHits hitsGo hits oneHit regHit afterNew asTarget glueLeft glueRight glued replacedAt replaceReg quoteLen patternLen commentLen lastOf tokenOf tokenAt lexGo stripLexical tailOf pushed grown cleanStep isHeader headed regionsGo regions regionNext untilHeader region regionAt upHeader braceOf push count top stackAfter nextAfter blocksGo blocks cleaned mayAt depthAt depthAfter ownLine ownGo own startsAfter startsByLast startsAbove startsGo isAssign leftOf rightOf assignOf lineReads lineStores lineUses usedIn commas declAct keepNames actOf actsGo pruneDeclsActs pruneDecls blockLinesOf blockLines linesWithin untilHead pieceCount declCount storeCount firstUse bound anyBound unbound mark markAll piecesOf bindAct bindGo bindDeclaratorsActs bindDeclarators
 examples = refl
 
 -- ---- a tail that closes a brace which it did not open is outside the law of a cut
@@ -72,10 +72,10 @@ unfoldable pub tail : List (List ℕ)
 tail = (118 ∷ 97 ∷ 114 ∷ 32 ∷ 120 ∷ 59 ∷ []) ∷ (32 ∷ 32 ∷ 108 ∷ 101 ∷ 116 ∷ 32 ∷ 114 ∷ 48 ∷ 59 ∷ []) ∷ (125 ∷ []) ∷ (32 ∷ 32 ∷ 114 ∷ 48 ∷ 32 ∷ 61 ∷ 32 ∷ 49 ∷ 59 ∷ []) ∷ []
 
 pub outside : own (cleaned tail) ≡ false
-unfolding tail upTo countOf prefixed suffixed same holds cutOn linesOf partsOf unlines lacks noLf act apply isWhite seqLen scan utf8Of whiteChar whiteHead whiteTail lead fromOf endWhite toOf trimOf numbered readNumber zeros decimalBy decimal numberAfter regOf phiOf isTemp isIdent allRegs isDecl storeIn parseOf textOf runsGo runs countBy upBy walkRuns runHits hitsGo hits oneHit regHit afterNew asTarget glueLeft glueRight glued replacedAt replaceReg quoteLen patternLen commentLen lastOf tokenOf tokenAt lexGo stripLexical tailOf pushed grown cleanStep isHeader headed regionsGo regions regionNext untilHeader region regionAt upHeader braceOf push count top stackAfter nextAfter blocksGo blocks cleaned mayAt depthAt depthAfter ownLine ownGo own startsAfter startsByLast startsAbove startsGo isAssign leftOf rightOf assignOf lineReads lineStores lineUses usedIn commas declAct keepNames actOf actsGo pruneDeclsActs pruneDecls spotsOf spots linesIn untilHead pieceCount declCount storeCount firstUse bound anyBound unbound mark markAll piecesOf bindAct bindGo bindDeclaratorsActs bindDeclarators
+unfolding tail upTo countOf prefixed suffixed same holds cutOn linesOf partsOf unlines lacks noLf act apply isWhite seqLen scan utf8Of whiteChar whiteHead whiteTail lead fromOf endWhite toOf trimOf numbered readNumber zeros decimalBy decimal numberAfter regOf phiOf isTemp isIdent allRegs isDecl storeIn parseOf textOf runsGo runs countBy upBy walkRuns runHits hitsGo hits oneHit regHit afterNew asTarget glueLeft glueRight glued replacedAt replaceReg quoteLen patternLen commentLen lastOf tokenOf tokenAt lexGo stripLexical tailOf pushed grown cleanStep isHeader headed regionsGo regions regionNext untilHeader region regionAt upHeader braceOf push count top stackAfter nextAfter blocksGo blocks cleaned mayAt depthAt depthAfter ownLine ownGo own startsAfter startsByLast startsAbove startsGo isAssign leftOf rightOf assignOf lineReads lineStores lineUses usedIn commas declAct keepNames actOf actsGo pruneDeclsActs pruneDecls blockLinesOf blockLines linesWithin untilHead pieceCount declCount storeCount firstUse bound anyBound unbound mark markAll piecesOf bindAct bindGo bindDeclaratorsActs bindDeclarators
 outside = refl
 
 -- and there the two do not give the same: 5 lines and 4
 pub uncut : (length (bindDeclarators plain (upper ++ tail)) ≡ 5) × (length (bindDeclarators plain upper ++ bindDeclarators plain tail) ≡ 4)
-unfolding upper tail upTo countOf prefixed suffixed same holds cutOn linesOf partsOf unlines lacks noLf act apply isWhite seqLen scan utf8Of whiteChar whiteHead whiteTail lead fromOf endWhite toOf trimOf numbered readNumber zeros decimalBy decimal numberAfter regOf phiOf isTemp isIdent allRegs isDecl storeIn parseOf textOf runsGo runs countBy upBy walkRuns runHits hitsGo hits oneHit regHit afterNew asTarget glueLeft glueRight glued replacedAt replaceReg quoteLen patternLen commentLen lastOf tokenOf tokenAt lexGo stripLexical tailOf pushed grown cleanStep isHeader headed regionsGo regions regionNext untilHeader region regionAt upHeader braceOf push count top stackAfter nextAfter blocksGo blocks cleaned mayAt depthAt depthAfter ownLine ownGo own startsAfter startsByLast startsAbove startsGo isAssign leftOf rightOf assignOf lineReads lineStores lineUses usedIn commas declAct keepNames actOf actsGo pruneDeclsActs pruneDecls spotsOf spots linesIn untilHead pieceCount declCount storeCount firstUse bound anyBound unbound mark markAll piecesOf bindAct bindGo bindDeclaratorsActs bindDeclarators
+unfolding upper tail upTo countOf prefixed suffixed same holds cutOn linesOf partsOf unlines lacks noLf act apply isWhite seqLen scan utf8Of whiteChar whiteHead whiteTail lead fromOf endWhite toOf trimOf numbered readNumber zeros decimalBy decimal numberAfter regOf phiOf isTemp isIdent allRegs isDecl storeIn parseOf textOf runsGo runs countBy upBy walkRuns runHits hitsGo hits oneHit regHit afterNew asTarget glueLeft glueRight glued replacedAt replaceReg quoteLen patternLen commentLen lastOf tokenOf tokenAt lexGo stripLexical tailOf pushed grown cleanStep isHeader headed regionsGo regions regionNext untilHeader region regionAt upHeader braceOf push count top stackAfter nextAfter blocksGo blocks cleaned mayAt depthAt depthAfter ownLine ownGo own startsAfter startsByLast startsAbove startsGo isAssign leftOf rightOf assignOf lineReads lineStores lineUses usedIn commas declAct keepNames actOf actsGo pruneDeclsActs pruneDecls blockLinesOf blockLines linesWithin untilHead pieceCount declCount storeCount firstUse bound anyBound unbound mark markAll piecesOf bindAct bindGo bindDeclaratorsActs bindDeclarators
 uncut = (refl, refl)

@@ -32,7 +32,7 @@ use Rattle.decls.proofs.Keeps.{lacks-trim, lacks-body, kept-noLf, decl-noLf}
 use Rattle.decls.proofs.Decl.{decl-parts, leftOut, regs-pay}
 use Rattle.reading.specs.Reading.{Reading, plain}
 use Rattle.reading.specs.Uses.{lineStores}
-use Rattle.bind.specs.Bind.{Spot, spots, linesIn, untilHead, firstUse, storeAt, bound, boundBy, anyBound, unbound, mark, markOne, markAll, marked, piecesOf, promoted, bindAct, aboveIn, bindGo, bindDeclaratorsActs, bindDeclarators}
+use Rattle.bind.specs.Bind.{BlockLine, blockLines, linesWithin, untilHead, firstUse, storeAt, bound, boundBy, anyBound, unbound, mark, markOne, markAll, marked, piecesOf, promoted, bindAct, aboveIn, bindGo, bindDeclaratorsActs, bindDeclarators}
 use Rattle.bind.specs.Inner.Steps.{fails, left}
 use Rattle.bind.proofs.WalkLaws.{in-spots, kept-is, mark-none}
 use Rattle.reading.proofs.ByLine.{ByLine, plain-by-line}
@@ -41,17 +41,17 @@ use Rattle.bind.proofs.Cut.{clean-long, bound-store}
 -- ---- what becomes of a line
 
 -- a test of the names that are left
-abbrev leftBy : List (List ℕ) → Spot → List Spot → List ℕ → Bool
+abbrev leftBy : List (List ℕ) → BlockLine → List BlockLine → List ℕ → Bool
 leftBy above d below = left (λ (v : ℕ). bound v above d below)
 
 -- it is a declaration of which a name is bound, and is printed without these; it is marked, and becomes a declaration; or it stays
-pub data Turns (d : Spot) (above : List (List ℕ)) (below : List Spot) (m : Bool) : Act → Type 0 where
+pub data Turns (d : BlockLine) (above : List (List ℕ)) (below : List BlockLine) (m : Bool) : Act → Type 0 where
   prints : isDecl (trimOf (d .line)) ≡ true → anyBound (partsOf 44 (bodyOf (trimOf (d .line)))) above d below ≡ true →
       Turns d above below m (declAct (take (fromOf (d .line)) (d .line)) (kept (leftBy above d below) 1 (partsOf 44 (bodyOf (trimOf (d .line))))))
   takes : m ≡ true → anyBound (piecesOf (d .line)) above d below ≡ false → Turns d above below m (become (promoted (d .line)))
   stays : m ≡ false → anyBound (piecesOf (d .line)) above d below ≡ false → Turns d above below m keep
 
-any-nil : (above : List (List ℕ)) (d : Spot) (below : List Spot) → anyBound [] above d below ≡ false
+any-nil : (above : List (List ℕ)) (d : BlockLine) (below : List BlockLine) → anyBound [] above d below ≡ false
 unfolding anyBound
 any-nil above d below = refl
 
@@ -63,7 +63,7 @@ pieces-other : (l : List ℕ) → isDecl (trimOf l) ≡ false → piecesOf l ≡
 unfolding piecesOf
 pieces-other l e = rw e
 
-pub turns : (d : Spot) (above : List (List ℕ)) (below : List Spot) (m : Bool) → Turns d above below m (bindAct d above below m)
+pub turns : (d : BlockLine) (above : List (List ℕ)) (below : List BlockLine) (m : Bool) → Turns d above below m (bindAct d above below m)
 unfolding bindAct
 turns d above below m = go (isDecl (trimOf (d .line))) refl
   where
@@ -87,19 +87,19 @@ promoted-noLf : (l : List ℕ) → lacks 10 l ≡ true → lacks 10 (promoted l)
 unfolding lacks
 promoted-noLf l h = lacks-append (take (fromOf l) l ++ letWord) (drop (fromOf l) l) (lacks-append (take (fromOf l) l) letWord (lacks-take (fromOf l) l h) refl) (lacks-drop (fromOf l) l h)
 
-turns-noLf : {d : Spot} {above : List (List ℕ)} {below : List Spot} {m : Bool} {a : Act} → Turns d above below m a → lacks 10 (d .line) ≡ true → actNoLf a ≡ true
+turns-noLf : {d : BlockLine} {above : List (List ℕ)} {below : List BlockLine} {m : Bool} {a : Act} → Turns d above below m a → lacks 10 (d .line) ≡ true → actNoLf a ≡ true
 turns-noLf {d} {above} {below} (prints e b) h =
     decl-noLf (take (fromOf (d .line)) (d .line)) (kept (leftBy above d below) 1 (partsOf 44 (bodyOf (trimOf (d .line))))) (lacks-take (fromOf (d .line)) (d .line) h)
     (kept-noLf (leftBy above d below) 1 (partsOf 44 (bodyOf (trimOf (d .line)))) (parts-noLf 44 (bodyOf (trimOf (d .line))) (lacks-body (trimOf (d .line)) (lacks-trim (d .line) h))))
 turns-noLf {d} (takes e b) h = promoted-noLf (d .line) h
 turns-noLf (stays e b) h = refl
 
-go-noLf : (sp : List Spot) (above : List (List ℕ)) (ms : List Bool) → noLf (linesIn sp) ≡ true → all actNoLf (bindGo sp above ms) ≡ true
-unfolding bindGo linesIn noLf
+go-noLf : (sp : List BlockLine) (above : List (List ℕ)) (ms : List Bool) → noLf (linesWithin sp) ≡ true → all actNoLf (bindGo sp above ms) ≡ true
+unfolding bindGo linesWithin noLf
 go-noLf [] above ms h = refl
 go-noLf (d ∷ sp) above ms h =
-    and-both (turns-noLf (turns d (aboveIn d above) (untilHead sp) (marked ms)) (and-left (lacks 10 (d .line)) (noLf (linesIn sp)) h))
-    (go-noLf sp (d .line ∷ aboveIn d above) (markAll (piecesOf (d .line)) (aboveIn d above) d (untilHead sp) (drop 1 ms)) (and-right (lacks 10 (d .line)) (noLf (linesIn sp)) h))
+    and-both (turns-noLf (turns d (aboveIn d above) (untilHead sp) (marked ms)) (and-left (lacks 10 (d .line)) (noLf (linesWithin sp)) h))
+    (go-noLf sp (d .line ∷ aboveIn d above) (markAll (piecesOf (d .line)) (aboveIn d above) d (untilHead sp) (drop 1 ms)) (and-right (lacks 10 (d .line)) (noLf (linesWithin sp)) h))
 
 -- ---- what the lines above paid for: 4 a mark
 
@@ -119,7 +119,7 @@ unfolding worth
 worth-first [] = refl
 worth-first (m ∷ ms) = refl
 
-module _ (above : List (List ℕ)) (d : Spot) (below : List Spot) where
+module _ (above : List (List ℕ)) (d : BlockLine) (below : List BlockLine) where
   -- each name that is left out pays for its mark
   marks-worth : (ps : List (List ℕ)) (ms : List Bool) → worth (markAll ps above d below ms) ≤ worth ms + 4 * leftOut (leftBy above d below) ps
   unfolding markAll leftOut
@@ -138,7 +138,7 @@ module _ (above : List (List ℕ)) (d : Spot) (below : List Spot) where
 
 module _ (H : ℕ) where
   -- a line and the marks that it makes
-  turns-pay : {d : Spot} {above : List (List ℕ)} {below : List Spot} {m : Bool} {a : Act} (ms : List Bool) → Turns d above below m a →
+  turns-pay : {d : BlockLine} {above : List (List ℕ)} {below : List BlockLine} {m : Bool} {a : Act} (ms : List Bool) → Turns d above below m a →
       weight H (unlines (act a (d .line))) + worth (markAll (piecesOf (d .line)) above d below ms) ≤ weight H (d .line) + 1 + (cond m 4 0 + worth ms)
   unfolding act
   turns-pay {d} {above} {below} {m} ms (prints e b) =
@@ -152,8 +152,8 @@ module _ (H : ℕ) where
       rw e (omega (arith, weight-line H (promoted (d .line)) [], nothing H, promote-le H (d .line) (from-clean (d .line)), ap worth (mark-none above d below (piecesOf (d .line)) ms b)))
   turns-pay {d} {above} {below} ms (stays e b) = rw e (omega (arith, weight-line H (d .line) [], nothing H, ap worth (mark-none above d below (piecesOf (d .line)) ms b)))
 
-  go-pays : (sp : List Spot) (above : List (List ℕ)) (ms : List Bool) → Pays H (worth ms) (bindGo sp above ms) (linesIn sp)
-  unfolding bindGo linesIn
+  go-pays : (sp : List BlockLine) (above : List (List ℕ)) (ms : List Bool) → Pays H (worth ms) (bindGo sp above ms) (linesWithin sp)
+  unfolding bindGo linesWithin
   go-pays [] above ms = done
   go-pays (d ∷ sp) above ms =
       let next : List Bool = markAll (piecesOf (d .line)) (aboveIn d above) d (untilHead sp) (drop 1 ms) in
@@ -162,15 +162,15 @@ module _ (H : ℕ) where
 
 -- ---- a line that is marked stores a register
 
-data Marked : List Bool → List Spot → Type 0 where
-  none : {sp : List Spot} → Marked [] sp
-  off : {ms : List Bool} {d : Spot} {sp : List Spot} → Marked ms sp → Marked (false ∷ ms) (d ∷ sp)
-  on : {ms : List Bool} {d : Spot} {sp : List Spot} (v : ℕ) → lineStores v (d .line) ≡ true → Marked ms sp → Marked (true ∷ ms) (d ∷ sp)
+data Marked : List Bool → List BlockLine → Type 0 where
+  none : {sp : List BlockLine} → Marked [] sp
+  off : {ms : List Bool} {d : BlockLine} {sp : List BlockLine} → Marked ms sp → Marked (false ∷ ms) (d ∷ sp)
+  on : {ms : List Bool} {d : BlockLine} {sp : List BlockLine} (v : ℕ) → lineStores v (d .line) ≡ true → Marked ms sp → Marked (true ∷ ms) (d ∷ sp)
 
 nowhere : {A : Type 0} (v b n : ℕ) → storeAt v b (drop n []) ≡ true → A
-nowhere v b n h = no (ap (λ (r : List Spot). storeAt v b r) (sym (drop-nil {A = Spot} n)) ∙ h)
+nowhere v b n h = no (ap (λ (r : List BlockLine). storeAt v b r) (sym (drop-nil {A = BlockLine} n)) ∙ h)
 
-store-until : (v b n : ℕ) (sp : List Spot) → storeAt v b (drop n (untilHead sp)) ≡ true → storeAt v b (drop n sp) ≡ true
+store-until : (v b n : ℕ) (sp : List BlockLine) → storeAt v b (drop n (untilHead sp)) ≡ true → storeAt v b (drop n sp) ≡ true
 unfolding untilHead
 store-until v b n [] h = h
 store-until v b n (d ∷ sp) h = go (isHeader (d .line)) n h (λ k. store-until v b k sp)
@@ -180,14 +180,14 @@ store-until v b n (d ∷ sp) h = go (isHeader (d .line)) n h (λ k. store-until 
     go false zero e f = e
     go false (suc k) e f = f k e
 
-mark-first : (v b n : ℕ) (sp : List Spot) → storeAt v b (drop n sp) ≡ true → Marked (mark n []) sp
+mark-first : (v b n : ℕ) (sp : List BlockLine) → storeAt v b (drop n sp) ≡ true → Marked (mark n []) sp
 unfolding mark
 mark-first v b zero [] h = no h
 mark-first v b zero (d ∷ sp) h = on v (and-left (lineStores v (d .line)) _ h) none
 mark-first v b (suc n) [] h = no h
 mark-first v b (suc n) (d ∷ sp) h = off (mark-first v b n sp h)
 
-mark-at : (v b n : ℕ) {ms : List Bool} {sp : List Spot} → Marked ms sp → storeAt v b (drop n sp) ≡ true → Marked (mark n ms) sp
+mark-at : (v b n : ℕ) {ms : List Bool} {sp : List BlockLine} → Marked ms sp → storeAt v b (drop n sp) ≡ true → Marked (mark n ms) sp
 unfolding mark
 mark-at v b n (none {sp}) h = mark-first v b n sp h
 mark-at v b zero (off {d = d} r) h = on v (and-left (lineStores v (d .line)) _ h) r
@@ -195,7 +195,7 @@ mark-at v b zero (on {d = d} w e r) h = on v (and-left (lineStores v (d .line)) 
 mark-at v b (suc n) (off r) h = off (mark-at v b n r h)
 mark-at v b (suc n) (on w e r) h = on w e (mark-at v b n r h)
 
-module _ (above : List (List ℕ)) (d : Spot) (sp : List Spot) where
+module _ (above : List (List ℕ)) (d : BlockLine) (sp : List BlockLine) where
   mark-kept : (r : RegName) {ms : List Bool} → Marked ms sp → Marked (markOne r above d (untilHead sp) ms) sp
   mark-kept name.None k = k
   mark-kept (name.Reg q) {ms} k = go (bound (q .0) above d (untilHead sp)) (bound-store (q .0) above d (untilHead sp))
@@ -209,12 +209,12 @@ module _ (above : List (List ℕ)) (d : Spot) (sp : List Spot) where
   marks-kept [] k = k
   marks-kept (p ∷ ps) k = marks-kept ps (mark-kept (regOf (trimOf p)) k)
 
-marked-next : {ms : List Bool} {d : Spot} {sp : List Spot} → Marked ms (d ∷ sp) → Marked (drop 1 ms) sp
+marked-next : {ms : List Bool} {d : BlockLine} {sp : List BlockLine} → Marked ms (d ∷ sp) → Marked (drop 1 ms) sp
 marked-next none = none
 marked-next (off r) = r
 marked-next (on v e r) = r
 
-marked-store : {ms : List Bool} {d : Spot} {sp : List Spot} → Marked ms (d ∷ sp) → marked ms ≡ true → (v : ℕ) × (lineStores v (d .line) ≡ true)
+marked-store : {ms : List Bool} {d : BlockLine} {sp : List BlockLine} → Marked ms (d ∷ sp) → marked ms ≡ true → (v : ℕ) × (lineStores v (d .line) ≡ true)
 marked-store none h = no h
 marked-store (off r) h = no h
 marked-store (on v e r) h = (v, e)
@@ -227,14 +227,14 @@ pub data Become : List Act → List (List ℕ) → Type 0 where
   takes : {acts : List Act} {l : List ℕ} {ls : List (List ℕ)} (v : ℕ) → lineStores v l ≡ true → Become acts ls → Become (become (promoted l) ∷ acts) (l ∷ ls)
   stays : {acts : List Act} {l : List ℕ} {ls : List (List ℕ)} → Become acts ls → Become (keep ∷ acts) (l ∷ ls)
 
-become-by : {d : Spot} {above : List (List ℕ)} {below : List Spot} {m : Bool} {a : Act} {acts : List Act} {ls : List (List ℕ)} → Turns d above below m a → (m ≡ true → (v : ℕ) × (lineStores v (d .line) ≡ true)) → Become acts ls →
+become-by : {d : BlockLine} {above : List (List ℕ)} {below : List BlockLine} {m : Bool} {a : Act} {acts : List Act} {ls : List (List ℕ)} → Turns d above below m a → (m ≡ true → (v : ℕ) × (lineStores v (d .line) ≡ true)) → Become acts ls →
     Become (a ∷ acts) (d .line ∷ ls)
 become-by {d} {above} {below} (prints e b) f r = prints (λ (v : ℕ). bound v above d below) e r
 become-by (takes e b) f r = let s = f e in takes (s .0) (s .1) r
 become-by (stays e b) f r = stays r
 
-go-become : (sp : List Spot) (above : List (List ℕ)) (ms : List Bool) → Marked ms sp → Become (bindGo sp above ms) (linesIn sp)
-unfolding bindGo linesIn
+go-become : (sp : List BlockLine) (above : List (List ℕ)) (ms : List Bool) → Marked ms sp → Become (bindGo sp above ms) (linesWithin sp)
+unfolding bindGo linesWithin
 go-become [] above ms k = over
 go-become (d ∷ sp) above ms k =
     become-by (turns d (aboveIn d above) (untilHead sp) (marked ms)) (marked-store k)
@@ -251,10 +251,10 @@ decl-gone indent [] h = refl
 decl-gone indent (x ∷ xs) h = apart h
 
 -- all pieces are bound
-abbrev pub allBound : List (List ℕ) → List (List ℕ) → Spot → List Spot → Bool
+abbrev pub allBound : List (List ℕ) → List (List ℕ) → BlockLine → List BlockLine → Bool
 allBound ps above d below = all (λ (p : List ℕ). boundBy (regOf (trimOf p)) above d below) ps
 
-module _ (above : List (List ℕ)) (d : Spot) (below : List Spot) where
+module _ (above : List (List ℕ)) (d : BlockLine) (below : List BlockLine) where
   none-left : (ps : List (List ℕ)) → allRegs ps ≡ true → kept (leftBy above d below) 1 ps ≡ [] → allBound ps above d below ≡ true
   unfolding allRegs kept
   none-left [] h k = refl
@@ -281,26 +281,26 @@ module _ (above : List (List ℕ)) (d : Spot) (below : List Spot) where
 -- ---- the pass
 
 module _ {R : Reading} (c : ByLine R) where
-  pub lines-are : (ls : List (List ℕ)) → linesIn (spots R ls) ≡ ls
-  unfolding spots
+  pub lines-are : (ls : List (List ℕ)) → linesWithin (blockLines R ls) ≡ ls
+  unfolding blockLines
   lines-are ls = in-spots ls (blocks (R .clean ls)) (startsGo (R .clean ls) true) (length-blocks (R .clean ls) ∙ clean-long c ls) (length-starts (R .clean ls) true ∙ clean-long c ls)
 
   -- no line holds an LF where none did
   pub keeps-noLf : (ls : List (List ℕ)) → noLf ls ≡ true → noLf (bindDeclarators R ls) ≡ true
   unfolding bindDeclarators bindDeclaratorsActs
-  keeps-noLf ls h = apply-noLf (bindGo (spots R ls) [] []) ls (go-noLf (spots R ls) [] [] (ap noLf (lines-are ls) ∙ h)) h
+  keeps-noLf ls h = apply-noLf (bindGo (blockLines R ls) [] []) ls (go-noLf (blockLines R ls) [] [] (ap noLf (lines-are ls) ∙ h)) h
 
   -- what the lines become
   pub bind-become : (ls : List (List ℕ)) → Become (bindDeclaratorsActs R ls) ls
   unfolding bindDeclaratorsActs
-  bind-become ls = subst (λ (x : List (List ℕ)). Become (bindGo (spots R ls) [] []) x) (lines-are ls) (go-become (spots R ls) [] [] none)
+  bind-become ls = subst (λ (x : List (List ℕ)). Become (bindGo (blockLines R ls) [] []) x) (lines-are ls) (go-become (blockLines R ls) [] [] none)
 
   -- no weight is raised, whatever a `{` weighs
   pub bind-weight : (H : ℕ) (ls : List (List ℕ)) → weight H (unlines (bindDeclarators R ls)) ≤ weight H (unlines ls)
   unfolding bindDeclarators bindDeclaratorsActs worth
   bind-weight H ls =
-      let r = pays (go-pays H (spots R ls) [] []) in
-      let z : apply (bindGo (spots R ls) [] []) (linesIn (spots R ls)) ≡ apply (bindGo (spots R ls) [] []) ls = ap (apply (bindGo (spots R ls) [] [])) (lines-are ls) in
+      let r = pays (go-pays H (blockLines R ls) [] []) in
+      let z : apply (bindGo (blockLines R ls) [] []) (linesWithin (blockLines R ls)) ≡ apply (bindGo (blockLines R ls) [] []) ls = ap (apply (bindGo (blockLines R ls) [] [])) (lines-are ls) in
       omega (arith, r, ap (λ (x : List (List ℕ)). weight H (unlines x)) z, ap (λ (x : List (List ℕ)). weight H (unlines x)) (lines-are ls))
 
 -- there are no more lines than before

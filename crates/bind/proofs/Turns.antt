@@ -16,7 +16,7 @@ use Rattle.place.proofs.Regions.{past, end-stop, end-on, end-end}
 use Rattle.place.specs.Inner.Fill.{Filled}
 use Rattle.place.proofs.Marks.{Marked, marked-here, marked-on}
 use Rattle.records.specs.declared.LineRec.{LineRec}
-use Rattle.records.specs.Inner.Records.{noRec, recAt, recordsOf, Above, lastOf, windowAt, Told}
+use Rattle.records.specs.Inner.Records.{noRec, recAt, recordsOf, Above, lastRecord, windowAt, Told}
 use Rattle.records.proofs.Down.{Down, down-start, down-some, down-none, down-lt, down-here, down-on}
 use Rattle.records.proofs.Shown.{Shows, Has, told-long, shows-start, shows-asks, shows-filled}
 use Rattle.decls.specs.Inner.Seen.{AtMost}
@@ -25,7 +25,7 @@ use Rattle.bind.specs.declared.Site.{Site}
 use Rattle.bind.specs.Bind.{bindDeclarators}
 use Rattle.bind.specs.Inner.Steps.{lineOf, belowOf, boundAt, markRow, siteText, siteNotes, bindNotes}
 use Rattle.bind.specs.Inner.Index.{seenAt, firstAt, siteSeen, siteFirst, ReadyFor}
-use Rattle.bind.specs.Inner.Sites.{stopBy, firstSite, siteOf, Walked}
+use Rattle.bind.specs.Inner.Sites.{stopBy, firstSite, siteOf, WalkedSites}
 use Rattle.bind.proofs.WalkLaws.{BindInv, RegionAt, region-same, region-new, walk-start, walk-reach, walk-marks, walk-room, walk-on, walk-lt, walk-end, walk-filled}
 use Rattle.bind.proofs.IndexWalk.{IndexInv, IndexAt, index-start, index-same, index-new, region-fits, index-told, index-on}
 
@@ -104,7 +104,7 @@ pub record TurnInv (own t es : List ℕ) (n : ℕ) (bs ss d₀ u₀ m₀ o₀ d 
   pub marked : Marked t es (s .next) k
   pub count : n ≡ length (linesOf t)
 
-pub turn-start : (own t es : List ℕ) (n : ℕ) (bs ss d u m o : List ℕ) (s : Site) (x : ℕ) {c : ℕ} → length d ≡ length u → AtMost 0 d → AtMost 0 u → Walked t es n bs ss m o →
+pub turn-start : (own t es : List ℕ) (n : ℕ) (bs ss d u m o : List ℕ) (s : Site) (x : ℕ) {c : ℕ} → length d ≡ length u → AtMost 0 d → AtMost 0 u → WalkedSites t es n bs ss m o →
     x ≡ stopBy es (length t) (n - 0) 0 0 → s ≡ firstSite x → c ≡ 0 → TurnInv own t es n bs ss d u m o d u m o s c 0 0
 unfolding firstSite
 turn-start own t es n bs ss d u m o s x a b c w f e i =
@@ -251,7 +251,7 @@ pub record Viewed (own t es : List ℕ) (n : ℕ) (bs ss d₀ u₀ m₀ o₀ d u
   pub high : past ≤ k + length w
   pub shows : Shows (recordsOf (linesOf t) bs) w past
 
-pub viewed-start : {own t es : List ℕ} {n : ℕ} {bs ss d u m o : List ℕ} {w : List LineRec} {s : Site} {x : ℕ} → 0 < length w → length d ≡ length u → AtMost 0 d → AtMost 0 u → Walked t es n bs ss m o →
+pub viewed-start : {own t es : List ℕ} {n : ℕ} {bs ss d u m o : List ℕ} {w : List LineRec} {s : Site} {x : ℕ} → 0 < length w → length d ≡ length u → AtMost 0 d → AtMost 0 u → WalkedSites t es n bs ss m o →
     x ≡ stopBy es (length t) (n - 0) 0 0 → s ≡ firstSite x → Viewed own t es n bs ss d u m o d u m o w w 0 s 0 0 0
 viewed-start {own} {t} {es} {n} {bs} {ss} {d} {u} {m} {o} {w} {s} {x} z p q r v f e = record {
   turn = turn-start own t es n bs ss d u m o s x p q r v f e refl;
@@ -264,7 +264,7 @@ viewed-start {own} {t} {es} {n} {bs} {ss} {d} {u} {m} {o} {w} {s} {x} z p q r v 
 
 module _ {own t es : List ℕ} {n : ℕ} {bs ss d₀ u₀ m₀ o₀ d u m o : List ℕ} {w₀ w : List LineRec} {c : ℕ} {s : Site} {past k p : ℕ} (h : Viewed own t es n bs ss d₀ u₀ m₀ o₀ d u m o w₀ w c s past k p) (i : Told t es bs n) (l : k < n) where
   -- what `refill` asks for
-  pub viewed-asks : ((x : ℕ) → getD es x 0 < 2 ^ 64) → ((k ≤ n) × ((n ≤ length es) × ((n ≤ length bs) × (0 < length w)))) × (past ≤ k → Above past (lastOf w))
+  pub viewed-asks : ((x : ℕ) → getD es x 0 < 2 ^ 64) → ((k ≤ n) × ((n ≤ length es) × ((n ≤ length bs) × (0 < length w)))) × (past ≤ k → Above past (lastRecord w))
   viewed-asks g = ((omega arith, (told-long i .0, (told-long i .1, h .some))), λ q. shows-asks i (h .shows) (h .some) (omega (arith, q, l)) g)
 
   module _ {past′ : ℕ} {w′ : List LineRec} (x : past′ ≡ cond (ltb k past) past (past + length w)) (y : w′ ≡ cond (ltb k past) w (windowAt es bs n past w)) where

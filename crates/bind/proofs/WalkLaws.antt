@@ -37,7 +37,7 @@ use Rattle.decls.proofs.Writes.{reg-bare}
 use Rattle.reading.specs.Reading.{plain}
 use Rattle.reading.specs.Uses.{lineStores, lineUses, usedIn}
 use Rattle.bind.specs.declared.Site.{Site}
-use Rattle.bind.specs.Bind.{Spot, spotsOf, spots, linesIn, untilHead, declCount, storeCount, firstUse, storeAt, bound, boundBy, anyBound, unboundOne, unbound, mark, markOne, markAll, marked, piecesOf, promoted, bindAct, aboveIn, bindGo, bindDeclaratorsActs, bindDeclarators}
+use Rattle.bind.specs.Bind.{BlockLine, blockLinesOf, blockLines, linesWithin, untilHead, declCount, storeCount, firstUse, storeAt, bound, boundBy, anyBound, unboundOne, unbound, mark, markOne, markAll, marked, piecesOf, promoted, bindAct, aboveIn, bindGo, bindDeclaratorsActs, bindDeclarators}
 use Rattle.bind.specs.Inner.Steps.{aboveOf, lineOf, belowOf, useRow, storesAt, boundAt, markRow, passes, fails, left, anyPass, noted, notedAll, givesUp, otherText, siteText, siteMarks, siteNotes, endNote, notesGo, bindNotes, Rows, none, row, Reach}
 use Rattle.bind.proofs.CountLaws.{decl-cons, store-cons, blank-stores}
 use Rattle.bind.proofs.SiteLaws.{bound-lt}
@@ -204,37 +204,37 @@ below-lines t i e j end h q z y =
 
 -- ---- spots
 
-until-in : (sp : List Spot) → linesIn (untilHead sp) ≡ untilHeader (linesIn sp)
-unfolding linesIn untilHead untilHeader
+until-in : (sp : List BlockLine) → linesWithin (untilHead sp) ≡ untilHeader (linesWithin sp)
+unfolding linesWithin untilHead untilHeader
 until-in [] = refl
 until-in (d ∷ sp) = go (isHeader (d .line)) (until-in sp)
   where
-    go : (b : Bool) → linesIn (untilHead sp) ≡ untilHeader (linesIn sp) → linesIn (cond b [] (d ∷ untilHead sp)) ≡ cond b [] (d .line ∷ untilHeader (linesIn sp))
+    go : (b : Bool) → linesWithin (untilHead sp) ≡ untilHeader (linesWithin sp) → linesWithin (cond b [] (d ∷ untilHead sp)) ≡ cond b [] (d .line ∷ untilHeader (linesWithin sp))
     go true e = refl
     go false e = ap (λ (ls : List (List ℕ)). d .line ∷ ls) e
 
-until-short : (sp : List Spot) → length (linesIn (untilHead sp)) ≤ length sp
-unfolding linesIn untilHead
+until-short : (sp : List BlockLine) → length (linesWithin (untilHead sp)) ≤ length sp
+unfolding linesWithin untilHead
 until-short [] = omega arith
 until-short (d ∷ sp) = go (isHeader (d .line)) (until-short sp)
   where
-    go : (b : Bool) → length (linesIn (untilHead sp)) ≤ length sp → length (linesIn (cond b [] (d ∷ untilHead sp))) ≤ suc (length sp)
+    go : (b : Bool) → length (linesWithin (untilHead sp)) ≤ length sp → length (linesWithin (cond b [] (d ∷ untilHead sp))) ≤ suc (length sp)
     go true h = omega arith
     go false h = omega arith
 
-use-in : (v : ℕ) (sp : List Spot) → useRow v (linesIn sp) ≡ firstUse v sp
-unfolding useRow linesIn firstUse
+use-in : (v : ℕ) (sp : List BlockLine) → useRow v (linesWithin sp) ≡ firstUse v sp
+unfolding useRow linesWithin firstUse
 use-in v [] = refl
 use-in v (d ∷ sp) = rw (use-in v sp)
 
-in-length : (sp : List Spot) → length (linesIn sp) ≡ length sp
-unfolding linesIn
+in-length : (sp : List BlockLine) → length (linesWithin sp) ≡ length sp
+unfolding linesWithin
 in-length [] = refl
 in-length (d ∷ sp) = ap suc (in-length sp)
 
 -- ---- the tables
 
-rows-until : {sp : List Spot} {bs ss : List ℕ} → Rows sp bs ss → Rows (untilHead sp) bs ss
+rows-until : {sp : List BlockLine} {bs ss : List ℕ} → Rows sp bs ss → Rows (untilHead sp) bs ss
 unfolding untilHead
 rows-until none = none
 rows-until (row {d} {ds} {bs} {ss} r) = go (isHeader (d .line)) (rows-until r)
@@ -243,10 +243,10 @@ rows-until (row {d} {ds} {bs} {ss} r) = go (isHeader (d .line)) (rows-until r)
     go true k = none
     go false k = row k
 
-rows-next : {d : Spot} {sp : List Spot} {bs ss : List ℕ} → Rows (d ∷ sp) bs ss → Rows sp (drop 1 bs) (drop 1 ss)
+rows-next : {d : BlockLine} {sp : List BlockLine} {bs ss : List ℕ} → Rows (d ∷ sp) bs ss → Rows sp (drop 1 bs) (drop 1 ss)
 rows-next (row r) = r
 
-rows-long : {sp : List Spot} {bs ss : List ℕ} → Rows sp bs ss → (length sp ≤ length bs) × (length sp ≤ length ss)
+rows-long : {sp : List BlockLine} {bs ss : List ℕ} → Rows sp bs ss → (length sp ≤ length bs) × (length sp ≤ length ss)
 rows-long none = (omega arith, omega arith)
 rows-long (row r) = let k = rows-long r in (omega (arith, k .0), omega (arith, k .1))
 
@@ -254,19 +254,19 @@ flag-is : (b : Bool) → eqb (cond b 1 0) 1 ≡ b
 flag-is true = refl
 flag-is false = refl
 
-store-below : (v b : ℕ) {sp : List Spot} {bs ss : List ℕ} → Rows sp bs ss → (n : ℕ) →
-    lineStores v (getD (linesIn sp) n []) && (eqb (getD bs n 0) b && eqb (getD ss n 0) 1) ≡ storeAt v b (drop n sp)
-unfolding linesIn
-store-below v b none n = rw (blank-stores v, drop-nil {A = Spot} n)
+store-below : (v b : ℕ) {sp : List BlockLine} {bs ss : List ℕ} → Rows sp bs ss → (n : ℕ) →
+    lineStores v (getD (linesWithin sp) n []) && (eqb (getD bs n 0) b && eqb (getD ss n 0) 1) ≡ storeAt v b (drop n sp)
+unfolding linesWithin
+store-below v b none n = rw (blank-stores v, drop-nil {A = BlockLine} n)
 store-below v b (row {d} r) zero = rw (flag-is (d .starts))
 store-below v b (row r) (suc n) = store-below v b r n
 
-store-rows : (v : ℕ) {d : Spot} {sp : List Spot} {bs ss : List ℕ} → Rows (d ∷ sp) bs ss → (n : ℕ) →
-    lineStores v (getD (linesIn (untilHead sp)) n []) && (eqb (getD bs (suc n) 0) (getD bs 0 0) && eqb (getD ss (suc n) 0) 1) ≡ storeAt v (d .block) (drop n (untilHead sp))
+store-rows : (v : ℕ) {d : BlockLine} {sp : List BlockLine} {bs ss : List ℕ} → Rows (d ∷ sp) bs ss → (n : ℕ) →
+    lineStores v (getD (linesWithin (untilHead sp)) n []) && (eqb (getD bs (suc n) 0) (getD bs 0 0) && eqb (getD ss (suc n) 0) 1) ≡ storeAt v (d .block) (drop n (untilHead sp))
 store-rows v {d} (row r) n = store-below v (d .block) (rows-until r) n
 
-store-is : (v : ℕ) (d : Spot) (sp : List Spot) (bs ss : List ℕ) (k n : ℕ) → Rows (d ∷ sp) (drop k bs) (drop k ss) →
-    storesAt v (linesIn (untilHead sp)) bs ss k n ≡ storeAt v (d .block) (drop n (untilHead sp))
+store-is : (v : ℕ) (d : BlockLine) (sp : List BlockLine) (bs ss : List ℕ) (k n : ℕ) → Rows (d ∷ sp) (drop k bs) (drop k ss) →
+    storesAt v (linesWithin (untilHead sp)) bs ss k n ≡ storeAt v (d .block) (drop n (untilHead sp))
 unfolding storesAt
 store-is v d sp bs ss k n r =
     let z : k + 0 ≡ k = omega arith in
@@ -275,7 +275,7 @@ store-is v d sp bs ss k n r =
 
 -- ---- a register is bound by the parts and the tables exactly where the definition says so
 
-pub bound-as : (t : List ℕ) (s : Site) (bs ss : List ℕ) (v : ℕ) (above : List (List ℕ)) (d : Spot) (sp : List Spot) → Like above (aboveOf t s) → lineOf t s ≡ d .line → belowOf t s ≡ linesIn (untilHead sp) →
+pub bound-as : (t : List ℕ) (s : Site) (bs ss : List ℕ) (v : ℕ) (above : List (List ℕ)) (d : BlockLine) (sp : List BlockLine) → Like above (aboveOf t s) → lineOf t s ≡ d .line → belowOf t s ≡ linesWithin (untilHead sp) →
     Rows (d ∷ sp) (drop (s .row) bs) (drop (s .row) ss) → boundAt t s bs ss v ≡ bound v above d (untilHead sp)
 unfolding boundAt bound
 bound-as t s bs ss v above d sp k l b r =
@@ -320,7 +320,7 @@ set-right : (p q : List ℕ) (k a : ℕ) → set (p ++ q) (length p + k) a ≡ p
 set-right [] q k a = let z : 0 + k ≡ k = omega arith in ap (λ (n : ℕ). set q n a) z
 set-right (x ∷ p) q k a = let z : suc (length p) + k ≡ suc (length p + k) = omega arith in ap (λ (n : ℕ). set (x ∷ (p ++ q)) n a) z ∙ ap (λ (r : List ℕ). x ∷ r) (set-right p q k a)
 
-module _ (above : List (List ℕ)) (d : Spot) (below : List Spot) where
+module _ (above : List (List ℕ)) (d : BlockLine) (below : List BlockLine) where
   mark-nil : (ms : List Bool) → markAll [] above d below ms ≡ ms
   unfolding markAll
   mark-nil ms = refl
@@ -347,7 +347,7 @@ other-as l false = refl
 
 -- ---- a declaration, by a test f that is the definition's
 
-module _ (f : ℕ → Bool) (above : List (List ℕ)) (d : Spot) (below : List Spot) (w : (v : ℕ) → f v ≡ bound v above d below) where
+module _ (f : ℕ → Bool) (above : List (List ℕ)) (d : BlockLine) (below : List BlockLine) (w : (v : ℕ) → f v ≡ bound v above d below) where
   any-is : (ps : List (List ℕ)) → anyPass f ps ≡ anyBound ps above d below
   unfolding anyPass anyBound
   any-is [] = refl
@@ -426,27 +426,27 @@ module _ (f : ℕ → Bool) (above : List (List ℕ)) (d : Spot) (below : List S
 -- ---- the walk
 
 -- what is still to be written
-unfoldable pub goText : List Spot → List (List ℕ) → List Bool → List ℕ
-goText sp us ms = unlines (apply (bindGo sp us ms) (linesIn sp))
+unfoldable pub goText : List BlockLine → List (List ℕ) → List Bool → List ℕ
+goText sp us ms = unlines (apply (bindGo sp us ms) (linesWithin sp))
 
 -- the marks after the first line of the walk
-abbrev nextMarks : Spot → List Spot → List (List ℕ) → List Bool → List Bool
+abbrev nextMarks : BlockLine → List BlockLine → List (List ℕ) → List Bool → List Bool
 nextMarks d sp us ms = markAll (piecesOf (d .line)) (aboveIn d us) d (untilHead sp) (drop 1 ms)
 
-go-cons : (d : Spot) (sp : List Spot) (us : List (List ℕ)) (ms : List Bool) →
+go-cons : (d : BlockLine) (sp : List BlockLine) (us : List (List ℕ)) (ms : List Bool) →
     goText (d ∷ sp) us ms ≡ unlines (act (bindAct d (aboveIn d us) (untilHead sp) (marked ms)) (d .line)) ++ goText sp (d .line ∷ aboveIn d us) (nextMarks d sp us ms)
-unfolding goText bindGo linesIn apply
-go-cons d sp us ms = unlines-append (act (bindAct d (aboveIn d us) (untilHead sp) (marked ms)) (d .line)) (apply (bindGo sp (d .line ∷ aboveIn d us) (nextMarks d sp us ms)) (linesIn sp))
+unfolding goText bindGo linesWithin apply
+go-cons d sp us ms = unlines-append (act (bindAct d (aboveIn d us) (untilHead sp) (marked ms)) (d .line)) (apply (bindGo sp (d .line ∷ aboveIn d us) (nextMarks d sp us ms)) (linesWithin sp))
 
 go-nil : (us : List (List ℕ)) (ms : List Bool) → goText [] us ms ≡ []
-unfolding goText bindGo linesIn apply unlines
+unfolding goText bindGo linesWithin apply unlines
 go-nil us ms = refl
 
 -- what the table says of a line in the end
-noteHere : Spot → List Spot → List (List ℕ) → List Bool → ℕ
+noteHere : BlockLine → List BlockLine → List (List ℕ) → List Bool → ℕ
 noteHere d sp us ms = endNote (bindAct d (aboveIn d us) (untilHead sp) (marked ms)) (marked ms)
 
-notes-cons : (d : Spot) (sp : List Spot) (us : List (List ℕ)) (ms : List Bool) → notesGo (d ∷ sp) us ms ≡ noteHere d sp us ms ∷ notesGo sp (d .line ∷ aboveIn d us) (nextMarks d sp us ms)
+notes-cons : (d : BlockLine) (sp : List BlockLine) (us : List (List ℕ)) (ms : List Bool) → notesGo (d ∷ sp) us ms ≡ noteHere d sp us ms ∷ notesGo sp (d .line ∷ aboveIn d us) (nextMarks d sp us ms)
 unfolding notesGo noteHere
 notes-cons d sp us ms = refl
 
@@ -469,7 +469,7 @@ set-here q rest x y k e =
     ap (λ (l : List ℕ). set l k y) (append-assoc q (x ∷ []) rest) ∙ ap (λ (n : ℕ). set (q ++ (x ∷ rest)) n y) z ∙ set-right q (x ∷ rest) 0 y ∙ sym (append-assoc q (y ∷ []) rest)
 
 -- the table of marks: those of the lines above, then those made for the lines to come, sp
-pub record Marks (t m₀ m : List ℕ) (sp : List Spot) (us : List (List ℕ)) (ms : List Bool) (k : ℕ) : Type 0 where
+pub record Marks (t m₀ m : List ℕ) (sp : List BlockLine) (us : List (List ℕ)) (ms : List Bool) (k : ℕ) : Type 0 where
   pub before : List ℕ
   pub count : length before ≡ k
   pub total : k + length sp ≡ length (linesOf t)
@@ -477,7 +477,7 @@ pub record Marks (t m₀ m : List ℕ) (sp : List Spot) (us : List (List ℕ)) (
   pub table : m ≡ before ++ (padTo (length sp) ms ++ drop (length (linesOf t)) m₀)
   pub so-far : before ++ notesGo sp us ms ≡ bindNotes plain (linesOf t)
 
-marks-length : {t m₀ m : List ℕ} {sp : List Spot} {us : List (List ℕ)} {ms : List Bool} {k : ℕ} → Marks t m₀ m sp us ms k → length m ≡ length m₀
+marks-length : {t m₀ m : List ℕ} {sp : List BlockLine} {us : List (List ℕ)} {ms : List Bool} {k : ℕ} → Marks t m₀ m sp us ms k → length m ≡ length m₀
 marks-length {t} {m₀} {m} {sp} {us} {ms} {k} h =
     omega (
       arith,
@@ -495,10 +495,10 @@ marks-length {t} {m₀} {m} {sp} {us} {ms} {k} h =
 pub record BindInv (t bs ss m₀ m d₀ d : List ℕ) (top end i k o : ℕ) : Type 0 where
   pub i≤ : i ≤ length t
   pub top≤ : top ≤ i
-  pub sp : List Spot
+  pub sp : List BlockLine
   pub us : List (List ℕ)
   pub ms : List Bool
-  pub lines : linesIn sp ≡ linesOf (drop i t)
+  pub lines : linesWithin sp ≡ linesOf (drop i t)
   pub rows : Rows sp (drop k bs) (drop k ss)
   pub above : Like us (linesOf (part top i t))
   pub whole : i < length t → Whole (part top i t)
@@ -508,21 +508,21 @@ pub record BindInv (t bs ss m₀ m d₀ d : List ℕ) (top end i k o : ℕ) : Ty
 
 -- a line, d, and those below it, sp
 pub record Opened (t bs ss m₀ m d₀ d : List ℕ) (us : List (List ℕ)) (ms : List Bool) (i k o : ℕ) : Type 0 where
-  pub spot : Spot
-  pub more : List Spot
-  pub lines : linesIn (spot ∷ more) ≡ linesOf (drop i t)
+  pub spot : BlockLine
+  pub more : List BlockLine
+  pub lines : linesWithin (spot ∷ more) ≡ linesOf (drop i t)
   pub rows : Rows (spot ∷ more) (drop k bs) (drop k ss)
   pub writing : Writing 0 (unlines (bindDeclarators plain (linesOf t))) (goText (spot ∷ more) us ms) d₀ d o
   pub marks : Marks t m₀ m (spot ∷ more) us ms k
 
-in-nil : linesIn [] ≡ []
-unfolding linesIn
+in-nil : linesWithin [] ≡ []
+unfolding linesWithin
 in-nil = refl
 
 opened : {t bs ss m₀ m d₀ d : List ℕ} {top end i k o : ℕ} (h : BindInv t bs ss m₀ m d₀ d top end i k o) (e : ℕ) → i < length t → e ≡ i + upTo 10 (drop i t) → Opened t bs ss m₀ m d₀ d (h .us) (h .ms) i k o
 opened {t} {bs} {ss} {m₀} {m} {d₀} {d} {top} {end} {i} {k} {o} h e l q = go (h .sp) (h .lines) (h .rows) (h .writing) (h .marks)
   where
-    go : (sp : List Spot) → linesIn sp ≡ linesOf (drop i t) → Rows sp (drop k bs) (drop k ss) → Writing 0 (unlines (bindDeclarators plain (linesOf t))) (goText sp (h .us) (h .ms)) d₀ d o → Marks t m₀ m sp (h .us) (h .ms) k →
+    go : (sp : List BlockLine) → linesWithin sp ≡ linesOf (drop i t) → Rows sp (drop k bs) (drop k ss) → Writing 0 (unlines (bindDeclarators plain (linesOf t))) (goText sp (h .us) (h .ms)) d₀ d o → Marks t m₀ m sp (h .us) (h .ms) k →
         Opened t bs ss m₀ m d₀ d (h .us) (h .ms) i k o
     go [] a b c f = absurd (omega (arith, ap length (sym in-nil ∙ a ∙ lines-at t i e l q)))
     go (s ∷ sp) a b c f = record { spot = s; more = sp; lines = a; rows = b; writing = c; marks = f }
@@ -557,21 +557,21 @@ module _ {t bs ss m₀ m d₀ d : List ℕ} {top end i k o : ℕ} (h : BindInv t
     abbrev site : Site
     site = record { top = top′; from = i; to = e; next = j; end = end′; row = k; block = getD bs k 0 }
 
-    both : linesIn (here .spot ∷ here .more) ≡ part i e t ∷ linesOf (drop j t)
+    both : linesWithin (here .spot ∷ here .more) ≡ part i e t ∷ linesOf (drop j t)
     both = here .lines ∙ lines-at t i e l q ∙ ap (λ (n : ℕ). part i e t ∷ linesOf (drop n t)) (sym y)
 
     line-is : here .spot .line ≡ part i e t
-    unfolding linesIn
+    unfolding linesWithin
     line-is = ap (λ (ls : List (List ℕ)). getD ls 0 []) both
 
-    more-is : linesIn (here .more) ≡ linesOf (drop j t)
-    unfolding linesIn
+    more-is : linesWithin (here .more) ≡ linesOf (drop j t)
+    unfolding linesWithin
     more-is = ap (drop 1) both
 
     abbrev above-is : Like (aboveIn (here .spot) (h .us)) (aboveOf t site)
     above-is = rw line-is (g .above)
 
-    below-is : belowOf t site ≡ linesIn (untilHead (here .more))
+    below-is : belowOf t site ≡ linesWithin (untilHead (here .more))
     below-is = below-lines t i e j end′ (omega arith) q y (g .ends) ∙ sym (until-in (here .more) ∙ ap untilHeader more-is)
 
     test-is : (v : ℕ) → boundAt t site bs ss v ≡ bound v (aboveIn (here .spot) (h .us)) (here .spot) (untilHead (here .more))
@@ -695,42 +695,42 @@ module _ {t bs ss m₀ m d₀ d : List ℕ} {top end i k o : ℕ} (h : BindInv t
 
 -- ---- where the walk begins and ends
 
-pub in-spots : (ls : List (List ℕ)) (bs : List ℕ) (ss : List Bool) → length bs ≡ length ls → length ss ≡ length ls → linesIn (spotsOf ls bs ss) ≡ ls
-unfolding spotsOf linesIn
+pub in-spots : (ls : List (List ℕ)) (bs : List ℕ) (ss : List Bool) → length bs ≡ length ls → length ss ≡ length ls → linesWithin (blockLinesOf ls bs ss) ≡ ls
+unfolding blockLinesOf linesWithin
 in-spots [] bs ss p q = refl
 in-spots (l ∷ ls) [] ss p q = absurd (omega arith)
 in-spots (l ∷ ls) (b ∷ bs) [] p q = absurd (omega arith)
 in-spots (l ∷ ls) (b ∷ bs) (s ∷ ss) p q = ap (λ (r : List (List ℕ)). l ∷ r) (in-spots ls bs ss (omega arith) (omega arith))
 
-pub spots-lines : (ls : List (List ℕ)) → linesIn (spots plain ls) ≡ ls
-unfolding spots
+pub spots-lines : (ls : List (List ℕ)) → linesWithin (blockLines plain ls) ≡ ls
+unfolding blockLines
 spots-lines ls = in-spots ls (blockIds ls) (startsGo (cleaned ls) true) (length-ids ls) (length-starts (cleaned ls) true ∙ cleaned-length ls)
 
-rows-spots : (ls : List (List ℕ)) (bs : List ℕ) (ss : List Bool) (x y : List ℕ) → length bs ≡ length ls → length ss ≡ length ls → Rows (spotsOf ls bs ss) (bs ++ x) (flagsOf ss ++ y)
-unfolding spotsOf flagsOf
+rows-spots : (ls : List (List ℕ)) (bs : List ℕ) (ss : List Bool) (x y : List ℕ) → length bs ≡ length ls → length ss ≡ length ls → Rows (blockLinesOf ls bs ss) (bs ++ x) (flagsOf ss ++ y)
+unfolding blockLinesOf flagsOf
 rows-spots [] bs ss x y p q = none
 rows-spots (l ∷ ls) [] ss x y p q = absurd (omega arith)
 rows-spots (l ∷ ls) (b ∷ bs) [] x y p q = absurd (omega arith)
 rows-spots (l ∷ ls) (b ∷ bs) (s ∷ ss) x y p q = row (rows-spots ls bs ss x y (omega arith) (omega arith))
 
 -- the tables as they were filled
-pub rows-filled : (ls : List (List ℕ)) {b b′ s s′ : List ℕ} {p q : ℕ} → Filled b (blockIds ls) b′ p → Filled s (flagsOf (startsGo (cleaned ls) true)) s′ q → Rows (spots plain ls) b′ s′
-unfolding spots
+pub rows-filled : (ls : List (List ℕ)) {b b′ s s′ : List ℕ} {p q : ℕ} → Filled b (blockIds ls) b′ p → Filled s (flagsOf (startsGo (cleaned ls) true)) s′ q → Rows (blockLines plain ls) b′ s′
+unfolding blockLines
 rows-filled ls {b} {b′} {s} {s′} f g =
     rw (f .holds, g .holds)
     (rows-spots ls (blockIds ls) (startsGo (cleaned ls) true) (drop (length (blockIds ls)) b) (drop (length (flagsOf (startsGo (cleaned ls) true))) s) (length-ids ls) (length-starts (cleaned ls) true ∙ cleaned-length ls))
 
-go-all : (ls : List (List ℕ)) → unlines (bindDeclarators plain ls) ≡ goText (spots plain ls) [] []
+go-all : (ls : List (List ℕ)) → unlines (bindDeclarators plain ls) ≡ goText (blockLines plain ls) [] []
 unfolding goText bindDeclarators bindDeclaratorsActs
-go-all ls = ap (λ (r : List (List ℕ)). unlines (apply (bindGo (spots plain ls) [] []) r)) (sym (spots-lines ls))
+go-all ls = ap (λ (r : List (List ℕ)). unlines (apply (bindGo (blockLines plain ls) [] []) r)) (sym (spots-lines ls))
 
-notes-all : (ls : List (List ℕ)) → notesGo (spots plain ls) [] [] ≡ bindNotes plain ls
+notes-all : (ls : List (List ℕ)) → notesGo (blockLines plain ls) [] [] ≡ bindNotes plain ls
 unfolding bindNotes
 notes-all ls = refl
 
-marks-start : (t m : List ℕ) → length (linesOf t) ≤ length m → take (length (linesOf t)) m ≡ replicate (length (linesOf t)) 0 → Marks t m m (spots plain (linesOf t)) [] [] 0
+marks-start : (t m : List ℕ) → length (linesOf t) ≤ length m → take (length (linesOf t)) m ≡ replicate (length (linesOf t)) 0 → Marks t m m (blockLines plain (linesOf t)) [] [] 0
 marks-start t m p q =
-    let n : length (spots plain (linesOf t)) ≡ length (linesOf t) = sym (in-length (spots plain (linesOf t))) ∙ ap length (spots-lines (linesOf t)) in
+    let n : length (blockLines plain (linesOf t)) ≡ length (linesOf t) = sym (in-length (blockLines plain (linesOf t))) ∙ ap length (spots-lines (linesOf t)) in
     record {
       before = [];
       count = refl;
@@ -741,13 +741,13 @@ marks-start t m p q =
       so-far = notes-all (linesOf t);
     }
 
-pub walk-start : (t bs ss m d : List ℕ) (end : ℕ) → Rows (spots plain (linesOf t)) bs ss → length (linesOf t) ≤ length m → take (length (linesOf t)) m ≡ replicate (length (linesOf t)) 0 →
+pub walk-start : (t bs ss m d : List ℕ) (end : ℕ) → Rows (blockLines plain (linesOf t)) bs ss → length (linesOf t) ≤ length m → take (length (linesOf t)) m ≡ replicate (length (linesOf t)) 0 →
     length (unlines (bindDeclarators plain (linesOf t))) ≤ length d →
     ((e : ℕ) → 0 < length t → e ≡ 0 + upTo 10 (drop 0 t) → isHeader (part 0 e t) ≡ false → end ≡ 0 + regionLen (drop 0 t)) → BindInv t bs ss m m d d 0 end 0 0 0
 walk-start t bs ss m d end r p q w z = record {
   i≤ = omega arith;
   top≤ = omega arith;
-  sp = spots plain (linesOf t);
+  sp = blockLines plain (linesOf t);
   us = [];
   ms = [];
   lines = spots-lines (linesOf t);
@@ -759,7 +759,7 @@ walk-start t bs ss m d end r p q w z = record {
   marks = marks-start t m p q;
 }
 
-sp-nil : (sp : List Spot) → length sp ≡ 0 → sp ≡ []
+sp-nil : (sp : List BlockLine) → length sp ≡ 0 → sp ≡ []
 sp-nil [] e = refl
 sp-nil (d ∷ sp) e = absurd (omega arith)
 
@@ -777,19 +777,19 @@ module _ {t bs ss m₀ m d₀ d : List ℕ} {top end i k o : ℕ} (h : BindInv t
   all-read l = sp-nil (h .sp) (omega (arith, in-length (h .sp), ap length (h .lines ∙ lines-end t i l)))
 
   pub walk-end : length t ≤ i → Wrote d₀ 0 (unlines (bindDeclarators plain (linesOf t))) d o
-  walk-end l = writing-end (writing-as (ap (λ (sp : List Spot). goText sp (h .us) (h .ms)) (all-read l) ∙ go-nil (h .us) (h .ms)) (h .writing))
+  walk-end l = writing-end (writing-as (ap (λ (sp : List BlockLine). goText sp (h .us) (h .ms)) (all-read l) ∙ go-nil (h .us) (h .ms)) (h .writing))
 
   pub walk-filled : length t ≤ i → Filled m₀ (bindNotes plain (linesOf t)) m (length (linesOf t))
   unfolding padTo
   walk-filled l =
       let z = all-read l in
       let b : h .marks .before ≡ bindNotes plain (linesOf t) =
-      sym (append-nil (h .marks .before)) ∙ ap (λ (x : List ℕ). h .marks .before ++ x) (sym (ap (λ (sp : List Spot). notesGo sp (h .us) (h .ms)) z ∙ notes-empty (h .us) (h .ms))) ∙ h .marks .so-far in
+      sym (append-nil (h .marks .before)) ∙ ap (λ (x : List ℕ). h .marks .before ++ x) (sym (ap (λ (sp : List BlockLine). notesGo sp (h .us) (h .ms)) z ∙ notes-empty (h .us) (h .ms))) ∙ h .marks .so-far in
       let n : length (linesOf t) ≡ length (bindNotes plain (linesOf t)) = omega (arith, h .marks .total, h .marks .count, ap length z, ap length b) in
       record {
         place = n;
         holds = h .marks .table
-            ∙ ap (λ (sp : List Spot). h .marks .before ++ (padTo (length sp) (h .ms) ++ drop (length (linesOf t)) m₀)) z
+            ∙ ap (λ (sp : List BlockLine). h .marks .before ++ (padTo (length sp) (h .ms) ++ drop (length (linesOf t)) m₀)) z
             ∙ ap (λ (x : List ℕ). x ++ drop (length (linesOf t)) m₀) b
             ∙ ap (λ (x : ℕ). bindNotes plain (linesOf t) ++ drop x m₀) n;
       }

@@ -21,28 +21,28 @@ use Rattle.reading.specs.Reading.{Reading}
 use Rattle.reading.specs.Uses.{lineStores, lineUses, usedIn}
 
 -- a line with its block, and whether it may start a statement
-pub record Spot : Type 0 where
+pub record BlockLine : Type 0 where
   pub line : List ℕ
   pub block : ℕ
   pub starts : Bool
 
-unfoldable pub spotsOf : List (List ℕ) → List ℕ → List Bool → List Spot
-spotsOf [] bs ss = []
-spotsOf (l ∷ ls) [] ss = []
-spotsOf (l ∷ ls) (b ∷ bs) [] = []
-spotsOf (l ∷ ls) (b ∷ bs) (s ∷ ss) = record { line = l; block = b; starts = s } ∷ spotsOf ls bs ss
+unfoldable pub blockLinesOf : List (List ℕ) → List ℕ → List Bool → List BlockLine
+blockLinesOf [] bs ss = []
+blockLinesOf (l ∷ ls) [] ss = []
+blockLinesOf (l ∷ ls) (b ∷ bs) [] = []
+blockLinesOf (l ∷ ls) (b ∷ bs) (s ∷ ss) = record { line = l; block = b; starts = s } ∷ blockLinesOf ls bs ss
 
 -- the lines of a text, read by R
-unfoldable pub spots : Reading → List (List ℕ) → List Spot
-unfolding spotsOf
-spots R ls = spotsOf ls (blocks (R .clean ls)) (startsGo (R .clean ls) true)
+unfoldable pub blockLines : Reading → List (List ℕ) → List BlockLine
+unfolding blockLinesOf
+blockLines R ls = blockLinesOf ls (blocks (R .clean ls)) (startsGo (R .clean ls) true)
 
-unfoldable pub linesIn : List Spot → List (List ℕ)
-linesIn [] = []
-linesIn (s ∷ ss) = s .line ∷ linesIn ss
+unfoldable pub linesWithin : List BlockLine → List (List ℕ)
+linesWithin [] = []
+linesWithin (s ∷ ss) = s .line ∷ linesWithin ss
 
 -- those above the first header
-unfoldable pub untilHead : List Spot → List Spot
+unfoldable pub untilHead : List BlockLine → List BlockLine
 untilHead [] = []
 untilHead (s ∷ ss) = cond (isHeader (s .line)) [] (s ∷ untilHead ss)
 
@@ -67,39 +67,39 @@ storeCount v (l ∷ ls) = cond (lineStores v l) (suc (storeCount v ls)) (storeCo
 -- ---- one declaration: `above` are the lines of its region above it, `below` the spots of its region below it, b its block
 
 -- how many lines stand above the first that uses register v
-unfoldable pub firstUse : ℕ → List Spot → ℕ
+unfoldable pub firstUse : ℕ → List BlockLine → ℕ
 firstUse v [] = 0
 firstUse v (s ∷ ss) = cond (lineUses v (s .line)) 0 (suc (firstUse v ss))
 
 -- that line stores it, in block b, and starts a statement
-abbrev pub storeAt : ℕ → ℕ → List Spot → Bool
+abbrev pub storeAt : ℕ → ℕ → List BlockLine → Bool
 storeAt v b [] = false
 storeAt v b (s ∷ ss) = lineStores v (s .line) && (eqb (s .block) b && s .starts)
 
 -- register v is bound: one declaration in the region and one store, no use above, and the first use below is that store
-unfoldable pub bound : ℕ → List (List ℕ) → Spot → List Spot → Bool
+unfoldable pub bound : ℕ → List (List ℕ) → BlockLine → List BlockLine → Bool
 unfolding declCount storeCount firstUse
 bound v above d below =
-    eqb (declCount v above + (declCount v (d .line ∷ []) + declCount v (linesIn below))) 1
-    && (eqb (storeCount v above + storeCount v (linesIn below)) 1
+    eqb (declCount v above + (declCount v (d .line ∷ []) + declCount v (linesWithin below))) 1
+    && (eqb (storeCount v above + storeCount v (linesWithin below)) 1
     && (not (usedIn v above) && storeAt v (d .block) (drop (firstUse v below) below)))
 
 -- a test of the register that a piece names
-abbrev pub boundBy : RegName → List (List ℕ) → Spot → List Spot → Bool
+abbrev pub boundBy : RegName → List (List ℕ) → BlockLine → List BlockLine → Bool
 boundBy name.None above d below = false
 boundBy (name.Reg q) above d below = bound (q .0) above d below
 
 -- some piece is bound
-unfoldable pub anyBound : List (List ℕ) → List (List ℕ) → Spot → List Spot → Bool
+unfoldable pub anyBound : List (List ℕ) → List (List ℕ) → BlockLine → List BlockLine → Bool
 anyBound [] above d below = false
 anyBound (p ∷ ps) above d below = boundBy (regOf (trimOf p)) above d below || anyBound ps above d below
 
 -- the names that stay, as they are printed
-abbrev pub unboundOne : RegName → List (List ℕ) → Spot → List Spot → List (List ℕ)
+abbrev pub unboundOne : RegName → List (List ℕ) → BlockLine → List BlockLine → List (List ℕ)
 unboundOne name.None above d below = []
 unboundOne (name.Reg q) above d below = cond (bound (q .0) above d below) [] (regText (q .0) ∷ [])
 
-unfoldable pub unbound : List (List ℕ) → List (List ℕ) → Spot → List Spot → List (List ℕ)
+unfoldable pub unbound : List (List ℕ) → List (List ℕ) → BlockLine → List BlockLine → List (List ℕ)
 unbound [] above d below = []
 unbound (p ∷ ps) above d below = unboundOne (regOf (trimOf p)) above d below ++ unbound ps above d below
 
@@ -111,11 +111,11 @@ mark zero (m ∷ ms) = true ∷ ms
 mark (suc n) [] = false ∷ mark n []
 mark (suc n) (m ∷ ms) = m ∷ mark n ms
 
-abbrev pub markOne : RegName → List (List ℕ) → Spot → List Spot → List Bool → List Bool
+abbrev pub markOne : RegName → List (List ℕ) → BlockLine → List BlockLine → List Bool → List Bool
 markOne name.None above d below ms = ms
 markOne (name.Reg q) above d below ms = cond (bound (q .0) above d below) (mark (firstUse (q .0) below) ms) ms
 
-unfoldable pub markAll : List (List ℕ) → List (List ℕ) → Spot → List Spot → List Bool → List Bool
+unfoldable pub markAll : List (List ℕ) → List (List ℕ) → BlockLine → List BlockLine → List Bool → List Bool
 unfolding mark
 markAll [] above d below ms = ms
 markAll (p ∷ ps) above d below ms = markAll ps above d below (markOne (regOf (trimOf p)) above d below ms)
@@ -135,7 +135,7 @@ abbrev pub promoted : List ℕ → List ℕ
 promoted l = take (fromOf l) l ++ letWord ++ trimStart l
 
 -- what becomes of a line; m says whether it is marked. A declaration of which nothing is bound stays as it is
-unfoldable pub bindAct : Spot → List (List ℕ) → List Spot → Bool → Act
+unfoldable pub bindAct : BlockLine → List (List ℕ) → List BlockLine → Bool → Act
 unfolding anyBound unbound declAct
 bindAct d above below m =
     cond (anyBound (piecesOf (d .line)) above d below)
@@ -143,10 +143,10 @@ bindAct d above below m =
     (cond m (become (promoted (d .line))) keep)
 
 -- the lines of the region above a line, the nearest first: none above a header
-abbrev pub aboveIn : Spot → List (List ℕ) → List (List ℕ)
+abbrev pub aboveIn : BlockLine → List (List ℕ) → List (List ℕ)
 aboveIn d above = cond (isHeader (d .line)) [] above
 
-unfoldable pub bindGo : List Spot → List (List ℕ) → List Bool → List Act
+unfoldable pub bindGo : List BlockLine → List (List ℕ) → List Bool → List Act
 unfolding bindAct markAll piecesOf untilHead
 bindGo [] above ms = []
 bindGo (d ∷ ss) above ms =
@@ -154,8 +154,8 @@ bindGo (d ∷ ss) above ms =
     ∷ bindGo ss (d .line ∷ aboveIn d above) (markAll (piecesOf (d .line)) (aboveIn d above) d (untilHead ss) (drop 1 ms))
 
 unfoldable pub bindDeclaratorsActs : Reading → List (List ℕ) → List Act
-unfolding bindGo spots
-bindDeclaratorsActs R ls = bindGo (spots R ls) [] []
+unfolding bindGo blockLines
+bindDeclaratorsActs R ls = bindGo (blockLines R ls) [] []
 
 unfoldable pub bindDeclarators : Reading → List (List ℕ) → List (List ℕ)
 unfolding bindDeclaratorsActs apply

@@ -11,7 +11,7 @@ ghost use Rattle.lines.specs.Lf.{part, linesOf, partsOf, unlines};
 ghost use Rattle.lines.specs.Inner.Out.{Wrote};
 ghost use Rattle.text.specs.Trim.{trimOf};
 ghost use Rattle.names.specs.Names.{regOf, regIs};
-ghost use Rattle.origins.specs.Inner.Codes.{far};
+ghost use Rattle.origins.specs.Inner.Codes.{farMove};
 ghost use Rattle.place.specs.Blocks.{cleaned};
 ghost use Rattle.place.specs.Inner.Blocks.{blockIds};
 ghost use Rattle.place.specs.Starts.{startsGo};
@@ -23,10 +23,10 @@ ghost use Rattle.decls.specs.Inner.Seen.{AtMost};
 ghost use Rattle.decls.specs.Inner.Print.{kept, declText};
 ghost use Rattle.reading.specs.Reading.{plain};
 ghost use Rattle.reading.specs.Uses.{lineStores};
-ghost use Rattle.bind.specs.Bind.{spots, pieceCount, declCount, storeCount, promoted, bindDeclarators};
+ghost use Rattle.bind.specs.Bind.{blockLines, pieceCount, declCount, storeCount, promoted, bindDeclarators};
 ghost use Rattle.bind.specs.Inner.Index.{siteSeen, siteFirst, Ready, ReadyFor};
 ghost use Rattle.bind.specs.Inner.Steps.{lineOf, belowOf, useRow, storesAt, boundAt, markRow, passes, left, anyPass, noted, notedAll, otherText, siteText, siteMarks, siteNotes, bindNotes, noteMoves, Reach};
-ghost use Rattle.bind.specs.Inner.Sites.{stopBy, firstSite, siteOf, Walked};
+ghost use Rattle.bind.specs.Inner.Sites.{stopBy, firstSite, siteOf, WalkedSites};
 
 // A line of the text and its region: the region begins at `top` and ends at `end`, the line goes from `from` to `to` and the one below
 // begins at `next`, there are `row` lines above it, and it stands in the block `block`.
@@ -647,7 +647,7 @@ fn walk_lines(
     recs: &mut [records::LineRec],
 ) -> usize
     requires { ⌜ (0 < length (now recs)) × (((length (now seen) ≡ length (now first)) × ((AtMost 0 (now seen)) × (AtMost 0 (now first))))
-        × (Walked (now text) (now ends) n (now blocks) (now starts) (now marks) (now out))) ⌝ }
+        × (WalkedSites (now text) (now ends) n (now blocks) (now starts) (now marks) (now out))) ⌝ }
     ensures answer { λ r. ⌜ Wrote (now (out .entry)) 0 (unlines (bindDeclarators plain (linesOf (now (text .entry))))) (now (out .exit)) r ⌝ }
     ensures memory { λ _. ⌜ Filled (now (marks .entry)) (bindNotes plain (linesOf (now (text .entry)))) (now (marks .exit)) (length (linesOf (now (text .entry)))) ⌝ }
 {
@@ -681,7 +681,7 @@ fn walk_window(
     out: &mut [u8],
 ) -> usize
     requires { ⌜ ((length (now seen) ≡ length (now first)) × ((AtMost 0 (now seen)) × (AtMost 0 (now first))))
-        × (Walked (now text) (now ends) n (now blocks) (now starts) (now marks) (now out)) ⌝ }
+        × (WalkedSites (now text) (now ends) n (now blocks) (now starts) (now marks) (now out)) ⌝ }
     ensures answer { λ r. ⌜ Wrote (now (out .entry)) 0 (unlines (bindDeclarators plain (linesOf (now (text .entry))))) (now (out .exit)) r ⌝ }
     ensures memory { λ _. ⌜ Filled (now (marks .entry)) (bindNotes plain (linesOf (now (text .entry)))) (now (marks .exit)) (length (linesOf (now (text .entry)))) ⌝ }
 {
@@ -714,7 +714,7 @@ fn walk(
     marks: &mut [u8],
     out: &mut [u8],
 ) -> usize
-    requires { ⌜ Walked (now text) (now ends) n (now blocks) (now starts) (now marks) (now out) ⌝ }
+    requires { ⌜ WalkedSites (now text) (now ends) n (now blocks) (now starts) (now marks) (now out) ⌝ }
     ensures answer { λ r. ⌜ Wrote (now (out .entry)) 0 (unlines (bindDeclarators plain (linesOf (now (text .entry))))) (now (out .exit)) r ⌝ }
     ensures memory { λ _. ⌜ Filled (now (marks .entry)) (bindNotes plain (linesOf (now (text .entry)))) (now (marks .exit)) (length (linesOf (now (text .entry)))) ⌝ }
     ensures index { λ _. ⌜ (now (seen .exit) ≡ replicate (length (now (seen .entry))) 0) × (now (first .exit) ≡ replicate (length (now (first .entry))) 0) ⌝ }
@@ -786,7 +786,7 @@ pub fn moves_of(marks: &[u8], moves: &mut [usize]) -> usize
 
 // The move of a line by its mark.
 fn move_at(m: u8) -> usize
-    ensures { λ r. ⌜ r ≡ cond (eqb m 2) far 0 ⌝ }
+    ensures { λ r. ⌜ r ≡ cond (eqb m 2) farMove 0 ⌝ }
 {
     if m == AWAY {
         return origins::FAR;

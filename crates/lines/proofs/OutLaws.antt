@@ -5,7 +5,7 @@ use mathlib.Core.List.{List, [], _∷_, _++_, append-assoc, append-nil}
 use native.Mathlib.Omega.{arith}
 use native.Mathlib.Nat.{add-zero, add-assoc}
 use native.Mathlib.Numerals.{add-one}
-use lib.ListN.{length, take, drop, getD, set, replicate, length-append, length-take, length-drop, take-append-drop, drop-of-length-le}
+use lib.ListN.{length, take, drop, getD, set, replicate, length-append, length-take, length-drop, take-append-drop, drop-of-length-le, replicate-append-replicate}
 use lib.Seq.{slice, take-suc, drop-cons, drop-append-le, drop-append-add, set-split, append-snoc, take-at, drop-at, drop-drop, getD-drop, length-take-le, take-all, take-add}
 use Rattle.lines.specs.Inner.Out.{putAt, Wrote}
 
@@ -208,11 +208,25 @@ zeros-more (suc i) = ap (λ (l : List ℕ). 0 ∷ l) (zeros-more i)
 pub wipe-start : (d : List ℕ) → Wrote d 0 (replicate 0 0) d 0
 wipe-start d = wrote-nil d 0 (omega arith)
 
-pub wipe-on : {d₀ d : List ℕ} {i : ℕ} → i < length d → Wrote d₀ 0 (replicate i 0) d i → Wrote d₀ 0 (replicate (i + 1) 0) (set d i 0) (i + 1)
-wipe-on {d₀} {d} {i} h w = wrote-as (zeros-more i ∙ ap (λ (n : ℕ). replicate n 0) (sym (add-one i))) (wrote-more 0 w h)
+pub wipe-on : {d₀ d d′ : List ℕ} (i e : ℕ) → i ≤ e → Wrote d₀ 0 (replicate i 0) d i → Wrote d i (replicate (e - i) 0) d′ (i + (e - i)) → Wrote d₀ 0 (replicate e 0) d′ e
+wipe-on {d₀} {d} {d′} i e h w v =
+    let q : i + (e - i) ≡ e = omega arith in
+    subst (λ (n : ℕ). Wrote d₀ 0 (replicate n 0) d′ n) q (wrote-as (replicate-append-replicate {A = ℕ} i (e - i) 0) (wrote-then w v))
 
 pub wipe-end : {d₀ d : List ℕ} {i n : ℕ} → i ≡ n → Wrote d₀ 0 (replicate i 0) d i → Wrote d₀ 0 (replicate n 0) d n
 wipe-end {d₀} {d} e w = subst (λ (k : ℕ). Wrote d₀ 0 (replicate k 0) d k) e w
+
+-- a block of zeros from the place o on
+pub block-start : (d : List ℕ) (o : ℕ) → o ≤ length d → Wrote d o (replicate 0 0) d (o + 0)
+block-start d o h = let e : o ≡ o + 0 = omega arith in subst (λ (n : ℕ). Wrote d o [] d n) e (wrote-nil d o h)
+
+pub block-on : {d₀ d : List ℕ} (o j : ℕ) → o + j < length d → Wrote d₀ o (replicate j 0) d (o + j) → Wrote d₀ o (replicate (j + 1) 0) (set d (o + j) 0) (o + (j + 1))
+block-on {d₀} {d} o j h w =
+    let e : o + j + 1 ≡ o + (j + 1) = omega arith in
+    subst (λ (n : ℕ). Wrote d₀ o (replicate (j + 1) 0) (set d (o + j) 0) n) e (wrote-as (zeros-more j ∙ ap (λ (n : ℕ). replicate n 0) (sym (add-one j))) (wrote-more 0 w h))
+
+pub block-end : {d₀ d : List ℕ} (o : ℕ) {j n : ℕ} → j ≡ n → Wrote d₀ o (replicate j 0) d (o + j) → Wrote d₀ o (replicate n 0) d (o + n)
+block-end {d₀} {d} o e w = subst (λ (k : ℕ). Wrote d₀ o (replicate k 0) d (o + k)) e w
 
 -- what is written over all of a buffer is all that it holds
 pub wrote-whole : {d xs d′ : List ℕ} {r : ℕ} → Wrote d 0 xs d′ r → length xs ≡ length d → d′ ≡ xs

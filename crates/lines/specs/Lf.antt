@@ -1,5 +1,5 @@
 -- Bytes, parts of them, and LF form: every line followed by one LF. Assumes nothing.
-use Prim.Native.Nat.{ℕ, suc, _+_, _-_, _*_}
+use Prim.Native.Nat.{ℕ, zero, suc, _+_, _-_, _*_, _/_, _%_}
 use Prim.Native.Char.{code}
 use mathlib.Core.Bool.{Bool, true, false, cond, _&&_, _||_}
 use mathlib.Core.List.{List, [], _∷_, _++_}
@@ -43,6 +43,11 @@ countOf b (x ∷ xs) = cond (eqb x b) (suc (countOf b xs)) (countOf b xs)
 unfoldable pub word : List ℕ → ℕ
 word [] = 0
 word (x ∷ xs) = word xs * 256 + x
+
+-- the number n as so many bytes, the lowest first
+unfoldable pub lowBytes : ℕ → ℕ → List ℕ
+lowBytes zero n = []
+lowBytes (suc w) n = n % 256 ∷ lowBytes w (n / 256)
 
 -- p stands at the front
 unfoldable pub prefixed : List ℕ → List ℕ → Bool

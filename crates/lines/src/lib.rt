@@ -371,6 +371,36 @@ pub fn put_lines(text: &[u8], out: &mut [u8], o: usize) -> usize
     put_byte(out, p, 10)
 }
 
+// Zeros are written in blocks of so many bytes: from two kilobytes on the machine's own way to write many is counted byte by byte.
+const BLOCK: usize = 1024;
+
+const NUMBERS: usize = BLOCK / 4;
+
+const WORDS: usize = BLOCK / 8;
+
+// Where the block that begins at a place ends, of the first n places: it has so many at most.
+fn block_end(i: usize, n: usize, most: usize) -> usize
+    requires { ⌜ i ≤ n ⌝ }
+    ensures { λ r. ⌜ ((i ≤ r) × (r ≤ n)) × (i < n → 0 < most → i < r) ⌝ }
+{
+    if n - i <= most {
+        return n;
+    }
+    i + most
+}
+
+// Writes zeros over `n` bytes from the place `o` on.
+fn wipe_block(s: &mut [u8], o: usize, n: usize)
+    requires { ⌜ o + n ≤ length (now s) ⌝ }
+    ensures { λ _. ⌜ Wrote (now (s .entry)) o (replicate n 0) (now (s .exit)) (o + n) ⌝ }
+{
+    let mut j = 0;
+    while j < n {
+        s[o + j] = 0;
+        j += 1;
+    }
+}
+
 // Writes zeros over the first `n` bytes.
 pub fn wipe(s: &mut [u8], n: usize)
     requires { ⌜ n ≤ length (now s) ⌝ }
@@ -378,19 +408,57 @@ pub fn wipe(s: &mut [u8], n: usize)
 {
     let mut i = 0;
     while i < n {
-        s[i] = 0;
-        i += 1;
+        let e = block_end(i, n, BLOCK);
+        wipe_block(s, i, e - i);
+        i = e;
     }
 }
 
-// Writes zeros over all of a buffer of numbers.
+// Writes zeros over `n` numbers from the place `o` on.
+fn wipe_numbers_block(s: &mut [u32], o: usize, n: usize)
+    requires { ⌜ o + n ≤ length (now s) ⌝ }
+    ensures { λ _. ⌜ Wrote (now (s .entry)) o (replicate n 0) (now (s .exit)) (o + n) ⌝ }
+{
+    let mut j = 0;
+    while j < n {
+        s[o + j] = 0;
+        j += 1;
+    }
+}
+
+// Writes zeros over all of a buffer of numbers of 32 bits.
 pub fn wipe_numbers(numbers: &mut [u32])
     ensures { λ _. ⌜ now (numbers .exit) ≡ replicate (length (now (numbers .entry))) 0 ⌝ }
 {
     let mut i = 0;
     while i < numbers.len() {
-        numbers[i] = 0;
-        i += 1;
+        let e = block_end(i, numbers.len(), NUMBERS);
+        wipe_numbers_block(numbers, i, e - i);
+        i = e;
+    }
+}
+
+// Writes zeros over `n` numbers from the place `o` on.
+fn wipe_words_block(s: &mut [usize], o: usize, n: usize)
+    requires { ⌜ o + n ≤ length (now s) ⌝ }
+    ensures { λ _. ⌜ Wrote (now (s .entry)) o (replicate n 0) (now (s .exit)) (o + n) ⌝ }
+{
+    let mut j = 0;
+    while j < n {
+        s[o + j] = 0;
+        j += 1;
+    }
+}
+
+// Writes zeros over all of a buffer of numbers.
+pub fn wipe_words(words: &mut [usize])
+    ensures { λ _. ⌜ now (words .exit) ≡ replicate (length (now (words .entry))) 0 ⌝ }
+{
+    let mut i = 0;
+    while i < words.len() {
+        let e = block_end(i, words.len(), WORDS);
+        wipe_words_block(words, i, e - i);
+        i = e;
     }
 }
 

@@ -1,14 +1,14 @@
 -- The moves that `optimize_once` hands out: those of its acts by their marks, and those of the declarations after them. Assumes nothing.
 use Prim.Native.Nat.{ℕ, zero, suc, _+_, _≤_, _<_}
 use mathlib.Core.Path.{_≡_, refl, sym, ap, subst, _∙_}
-use mathlib.Core.Bool.{Bool, true, false, cond}
+use mathlib.Core.Bool.{Bool, true, false, cond, _&&_}
 use mathlib.Core.List.{List, [], _∷_}
 use native.Mathlib.Omega.{arith}
 use native.Mathlib.Numerals.{add-one}
 use borrow.Author.Tests.{eq-eqb, ne-eqb, le-leb}
-use lib.Dec.{eqb}
+use lib.Dec.{eqb, leb}
 use lib.ListN.{length, getD, set}
-use Rattle.lines.specs.Lf.{linesOf, unlines}
+use Rattle.lines.specs.Lf.{all, linesOf, unlines}
 use Rattle.lines.specs.Acts.{Act, keep, become, into, gone, apply}
 use Rattle.lines.specs.Inner.Out.{Wrote}
 use Rattle.lines.proofs.Tests.{and-both}
@@ -19,10 +19,10 @@ use Rattle.place.specs.Inner.Fill.{flagsOf}
 use Rattle.place.specs.Paths.{blockPaths, tops}
 use Rattle.place.specs.Loops.{insideLoop}
 use Rattle.parse.specs.Parse.{parseOf}
-use Rattle.origins.specs.Inner.Codes.{far, moveOf, movesOf}
+use Rattle.origins.specs.Inner.Codes.{farMove, moveOf, movesOf}
 use Rattle.decls.specs.Decls.{pruneDeclsActs}
 use Rattle.reading.specs.Reading.{Reading}
-use Rattle.origins.proofs.Sound.{lands, sound}
+use Rattle.origins.proofs.CodeLaws.{sound}
 use Rattle.once.specs.Once.{Spot, takenBy, onceActs}
 use Rattle.once.specs.Inner.Tables.{sends, actBy, actsBy, onceMarks}
 use Rattle.once.specs.Inner.Moves.{markMove, moveMarks}
@@ -36,7 +36,7 @@ act-move : (m n : ℕ) (given : Bool) (above l : List ℕ) → moveOf (actBy m n
 unfolding moveOf
 act-move m n given above l = go (eqb m 1) (eqb m 2) (eqb n 2) given
   where
-    go : (a b c g : Bool) → moveOf (cond a gone (cond b (cond c keep (into 1)) (cond g (become (takenBy above (parseOf above) l)) keep))) ≡ cond a far (cond b (cond c 0 1) 0)
+    go : (a b c g : Bool) → moveOf (cond a gone (cond b (cond c keep (into 1)) (cond g (become (takenBy above (parseOf above) l)) keep))) ≡ cond a farMove (cond b (cond c 0 1) 0)
     go true b c g = refl
     go false true true g = refl
     go false true false g = refl
@@ -58,22 +58,36 @@ once-marks R ls = ap length (sym (marks-of R ls)) ∙ marks-length R ls (tops (b
 pub once-moves : (R : Reading) (ls : List (List ℕ)) → movesOf (onceActs R ls) ≡ moveMarks (onceMarks R ls)
 once-moves R ls = ap movesOf (sym (acts-of R ls)) ∙ marks-move ls (onceMarks R ls) false [] (once-marks R ls)
 
--- ---- a line goes only into the next, and there is one
+-- ---- a line goes only into one below it
 
-said-sound : {R : Reading} {ss : List Spot} {acts : List Act} → Said R ss acts → sound acts ≡ true
-unfolding sound lands
-said-sound ended = refl
+-- where a line goes n lines down, above lines with the acts `more`, there are so many
+unfoldable pub reaches : Act → List Act → Bool
+reaches keep more = true
+reaches (become t) more = true
+reaches (into n) more = leb n (length more)
+reaches gone more = true
+
+-- so of each line
+unfoldable pub reachesAll : List Act → Bool
+unfolding reaches
+reachesAll [] = true
+reachesAll (a ∷ more) = reaches a more && reachesAll more
+
+said-sound : {R : Reading} {ss : List Spot} {acts : List Act} → Said R ss acts → (all sound acts ≡ true) × (reachesAll acts ≡ true)
+unfolding reachesAll reaches
+said-sound ended = (refl, refl)
 said-sound (stayed h) = said-sound h
 said-sound (went r h) = said-sound h
-said-sound (moved {more = more} t h) = and-both (le-leb 1 (suc (length more)) (omega arith)) (said-sound h)
+said-sound (moved {more = more} t h) = (said-sound h .0, and-both (le-leb 1 (suc (length more)) (omega arith)) (said-sound h .1))
 
-pub once-sound : (R : Reading) (ls : List (List ℕ)) → sound (onceActs R ls) ≡ true
+-- none goes into itself, and none past the last
+pub once-sound : (R : Reading) (ls : List (List ℕ)) → (all sound (onceActs R ls) ≡ true) × (reachesAll (onceActs R ls) ≡ true)
 once-sound R ls = said-sound (once-said R ls)
 
 -- ---- one move
 
 module _ (m n : ℕ) where
-  pub at-gone : m ≡ 1 → far ≡ markMove m n
+  pub at-gone : m ≡ 1 → farMove ≡ markMove m n
   at-gone h = rw (eq-eqb m 1 h)
 
   module _ (h : m ≡ 1 → ⊥) where

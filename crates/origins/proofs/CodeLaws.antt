@@ -11,7 +11,7 @@ use Rattle.lines.proofs.Tests.{and-left, and-right}
 use Rattle.lines.specs.Acts.{Act, keep, become, into, gone}
 use Rattle.lines.specs.Lf.{all}
 use Rattle.origins.specs.Fates.{Fate, at, held, lost, taken, fateAt, fatesGo, onward, follow}
-use Rattle.origins.specs.Inner.Codes.{far, moveOf, movesOf, half, codeOf, codesOf, takenCode, landGo, onCode, through, standing}
+use Rattle.origins.specs.Inner.Codes.{farMove, moveOf, movesOf, half, codeOf, codesOf, takenCode, landGo, onCode, through, standing}
 use Rattle.origins.proofs.FateLaws.{outs, under, Under, cons, under-at, fates-under, fates-length}
 
 -- a line is not taken into itself, and not further down than a table tells
@@ -21,7 +21,7 @@ sound (become x) = true
 sound (into n) = ltb 0 n
 sound gone = true
 
-code-at : (fs : List Fate) (n : ℕ) → getD (codesOf fs) n far ≡ codeOf (fateAt fs n)
+code-at : (fs : List Fate) (n : ℕ) → getD (codesOf fs) n farMove ≡ codeOf (fateAt fs n)
 unfolding codesOf fateAt codeOf
 code-at [] n = refl
 code-at (f ∷ fs) zero = refl
@@ -54,10 +54,10 @@ land-into (suc n) ms fs o q u e =
     rw (ne-eqb (suc n) 0 (omega arith), e) (ap (λ (c : ℕ). c ∷ codesOf fs) (ap takenCode (code-at fs n) ∙ code-taken (fateAt fs n) (under-at half n fs u)))
 
 -- and one that is gone
-land-gone : (ms : List ℕ) (fs : List Fate) (o : ℕ) → length fs ≤ half → landGo ms o ≡ codesOf fs → landGo (far ∷ ms) o ≡ codesOf (lost ∷ fs)
+land-gone : (ms : List ℕ) (fs : List Fate) (o : ℕ) → length fs ≤ half → landGo ms o ≡ codesOf fs → landGo (farMove ∷ ms) o ≡ codesOf (lost ∷ fs)
 unfolding landGo codesOf codeOf takenCode
 land-gone ms fs o h e =
-    rw (e, List·getD-eq-default (codesOf fs) far {n = 18446744073709551614} (omega (arith, codes-length fs)))
+    rw (e, List·getD-eq-default (codesOf fs) farMove {n = 18446744073709551614} (omega (arith, codes-length fs)))
 
 -- where a table of moves leads is where the acts lead
 pub land-fates : (acts : List Act) (o : ℕ) → all sound acts ≡ true → o + length acts ≤ half → landGo (movesOf acts) o ≡ codesOf (fatesGo acts o)
@@ -80,7 +80,7 @@ standing-outs (into n ∷ more) s =
     rw (ne-eqb n 0 (omega (arith, ltb-true 0 n (and-left (ltb 0 n) (all sound more) s)))) (standing-outs more (and-right (ltb 0 n) (all sound more) s))
 standing-outs (gone ∷ more) s = standing-outs more s
 
-far-taken : takenCode far ≡ far
+far-taken : takenCode farMove ≡ farMove
 unfolding takenCode
 far-taken = refl
 
@@ -91,7 +91,7 @@ on-code gs (at n) u v h = rw (lt-ltb n half u) (code-at gs n)
 on-code gs (held n) u v h =
     let q : (half + n) - half ≡ n = omega arith in
     rw (le-ltb (half + n) half (omega arith), q) (ap takenCode (code-at gs n) ∙ code-taken (fateAt gs n) (under-at half n gs v))
-on-code gs lost u v h = rw (List·getD-eq-default (codesOf gs) far {n = far - half} (omega (arith, codes-length gs))) far-taken
+on-code gs lost u v h = rw (List·getD-eq-default (codesOf gs) farMove {n = farMove - half} (omega (arith, codes-length gs))) far-taken
 
 pub through-follow : (fs gs : List Fate) → Under half fs → Under half gs → length gs < half → through (codesOf fs) (codesOf gs) ≡ codesOf (follow fs gs)
 unfolding through codesOf follow

@@ -9,7 +9,7 @@ use Rattle.origins.specs.declared.Went.{Went}
 use Rattle.origins.specs.declared.Went.the-variants.{Equal, Changed, Inside, Away}
 use Rattle.origins.specs.declared.Form.the-variants.{Ol, Om}
 use Rattle.origins.specs.Fates.{at, held, lost, fatesOf, follow, wentsOf}
-use Rattle.origins.specs.Form.{Shape, shapeOf, goneOf, sizeOf, fileOf}
+use Rattle.origins.specs.Form.{Shape, formShape, goneOf, sizeOf, fileOf}
 use Rattle.origins.specs.Read.{readFile, says, wrong}
 use Rattle.origins.specs.Answers.{linesFor, found, refused, turn, turned, denied}
 
@@ -35,10 +35,10 @@ holder-goes = refl
 -- ---- records
 
 abbrev pub ol : Shape
-ol = shapeOf Ol
+ol = formShape Ol
 
 abbrev pub om : Shape
-om = shapeOf Om
+om = formShape Om
 
 -- the numbers that stand for gone, and the sizes of records
 pub gone-numbers : (goneOf ol ≡ 65535) × (goneOf om ≡ 4294967295)

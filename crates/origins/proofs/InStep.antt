@@ -12,7 +12,7 @@ use Rattle.lines.proofs.Tests.{no}
 use Rattle.origins.specs.declared.Went.{Went}
 use Rattle.origins.specs.declared.Went.the-variants.{Inside, Away}
 use Rattle.origins.specs.Fates.{Fate, at, held, lost, wentOf, wentsOf}
-use Rattle.origins.specs.Inner.Codes.{far, half, codeOf, codesOf}
+use Rattle.origins.specs.Inner.Codes.{farMove, half, codeOf, codesOf}
 use Rattle.origins.specs.Inner.Written.{saidOne, leftOver, wentsBy}
 use Rattle.origins.proofs.FateLaws.{under, Under, cons, stands, countUp}
 
@@ -44,14 +44,14 @@ holding : (l o : List ℕ) (n : ℕ) → n < half - 1 → saidOne l o (half + n)
 unfolding saidOne
 holding l o n h =
     let q : (half + n) - half ≡ n = omega arith in
-    rw (le-ltb (half + n) half (omega arith), ne-eqb (half + n) far (omega arith), q)
+    rw (le-ltb (half + n) half (omega arith), ne-eqb (half + n) farMove (omega arith), q)
 
 left-held : (c : ℕ) (out : List (List ℕ)) → half ≤ c → leftOver c out ≡ out
 unfolding leftOver
 left-held c out h = rw (le-ltb c half h)
 
 -- one that is lost
-losing : (l o : List ℕ) → saidOne l o far ≡ Away
+losing : (l o : List ℕ) → saidOne l o farMove ≡ Away
 unfolding saidOne
 losing l o = refl
 
@@ -74,6 +74,6 @@ in-step out (l ∷ ls) (held n ∷ fs) m k (cons p u) h =
     ∙ ap (λ (o : List (List ℕ)). Inside n ∷ wentsBy o ls (codesOf fs)) (left-held (half + n) (drop k out) (omega arith))
     ∙ ap (λ (ws : List Went). Inside n ∷ ws) (in-step out ls fs m k u h)
 in-step out (l ∷ ls) (lost ∷ fs) m k (cons p u) h =
-    ap (λ (w : Went). w ∷ wentsBy (leftOver far (drop k out)) ls (codesOf fs)) (losing l (getD (drop k out) 0 []))
-    ∙ ap (λ (o : List (List ℕ)). Away ∷ wentsBy o ls (codesOf fs)) (left-held far (drop k out) (omega arith))
+    ap (λ (w : Went). w ∷ wentsBy (leftOver farMove (drop k out)) ls (codesOf fs)) (losing l (getD (drop k out) 0 []))
+    ∙ ap (λ (o : List (List ℕ)). Away ∷ wentsBy o ls (codesOf fs)) (left-held farMove (drop k out) (omega arith))
     ∙ ap (λ (ws : List Went). Away ∷ ws) (in-step out ls fs m k u h)

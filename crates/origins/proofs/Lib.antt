@@ -12,4 +12,3 @@ pub mod RawLines
 pub mod Walks
 pub mod Thins
 pub mod Examples
-pub mod Sound

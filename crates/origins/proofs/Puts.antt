@@ -4,11 +4,12 @@ use mathlib.Core.Path.{_≡_, refl, sym, ap}
 use mathlib.Core.List.{List, [], _∷_, _++_}
 use native.Mathlib.Omega.{arith}
 use lib.ListN.{length, set}
+use Rattle.lines.specs.Lf.{lowBytes}
 use Rattle.lines.specs.Inner.Out.{Wrote}
 use Rattle.lines.proofs.OutLaws.{Writing, writing-start, writing-as, writing-room, writing-put, writing-end, wrote-byte, wrote-then}
 use Rattle.origins.specs.declared.Went.{Went}
 use Rattle.origins.specs.declared.Form.{Form}
-use Rattle.origins.specs.Form.{Shape, shapeOf, goneOf, sizeOf, lowBytes, fateByte, outLine, recordBytes}
+use Rattle.origins.specs.Form.{Shape, formShape, goneOf, sizeOf, fateByte, outLine, recordBytes}
 use Rattle.origins.proofs.RoundTrip.{low-length}
 
 -- ---- a number
@@ -48,11 +49,11 @@ record-put F i w a b c d e = wrote-then a (wrote-then b (wrote-then c (wrote-the
 
 -- ---- what a form and a record say, by their cases
 
-pub gone-as : (f : Form) {x : Form} → f ≡ x → goneOf (shapeOf x) ≡ goneOf (shapeOf f)
-gone-as f e = ap (λ (y : Form). goneOf (shapeOf y)) (sym e)
+pub gone-as : (f : Form) {x : Form} → f ≡ x → goneOf (formShape x) ≡ goneOf (formShape f)
+gone-as f e = ap (λ (y : Form). goneOf (formShape y)) (sym e)
 
-pub size-as : (f : Form) {x : Form} → f ≡ x → sizeOf (shapeOf x) ≡ sizeOf (shapeOf f)
-size-as f e = ap (λ (y : Form). sizeOf (shapeOf y)) (sym e)
+pub size-as : (f : Form) {x : Form} → f ≡ x → sizeOf (formShape x) ≡ sizeOf (formShape f)
+size-as f e = ap (λ (y : Form). sizeOf (formShape y)) (sym e)
 
 pub fate-as : (w : Went) {x : Went} → w ≡ x → fateByte x ≡ fateByte w
 fate-as w e = ap fateByte (sym e)

@@ -10,10 +10,10 @@ use lib.Dec.{eqb, leb, ltb}
 use lib.ListN.{length, take, drop, getD, length-append, length-take, length-drop, take-append-drop}
 use lib.Seq.{take-add, take-at, drop-at, drop-drop, drop-append-add, getD-drop, getD-append-seam, drop-cons}
 use Rattle.lines.proofs.Tests.{no, and-left, and-right, and-both}
-use Rattle.lines.specs.Lf.{all, word}
+use Rattle.lines.specs.Lf.{all, word, lowBytes}
 use Rattle.origins.specs.declared.Went.{Went}
 use Rattle.origins.specs.declared.Went.the-variants.{Equal, Changed, Inside, Away}
-use Rattle.origins.specs.Form.{Shape, goneOf, sizeOf, lowBytes, fateByte, outLine, recordBytes, recordsFrom, fileOf}
+use Rattle.origins.specs.Form.{Shape, goneOf, sizeOf, fateByte, outLine, recordBytes, recordsFrom, fileOf}
 use Rattle.origins.specs.Read.{lineIn, fateIn, outIn, agreeBy, faultIn, wentBy, wentIn, Said, says, wrong, saidBy, readFrom, readFile}
 use Rattle.origins.specs.Answers.{fitsOut, fits, fitsFrom}
 

@@ -13,7 +13,7 @@ use lib.Seq.{drop-cons, take-length, drop-length, drop-append-add, getD-append-a
 use Rattle.lines.specs.Inner.Out.{Wrote}
 use Rattle.lines.proofs.OutLaws.{wrote-byte, wrote-as, wrote-nil, wrote-more, wrote-whole}
 use Rattle.origins.specs.Fates.{staying}
-use Rattle.origins.specs.Inner.Codes.{codeOf, codesOf, far, noteOf, half, takenCode, landGo, onCode, through, standing}
+use Rattle.origins.specs.Inner.Codes.{codeOf, codesOf, farMove, noteOf, half, takenCode, landGo, onCode, through, standing}
 
 -- inside a list it is all one what stands past its end
 pub in-any : (l : List ℕ) (i a b : ℕ) → i < length l → getD l i a ≡ getD l i b
@@ -23,11 +23,11 @@ in-any (x ∷ l) (suc i) a b h = in-any l i a b (omega arith)
 
 -- ---- single entries
 
-pub note-gone : (d : List ℕ) (k o p : ℕ) → k < length d → o ≡ p → Wrote d k (noteOf o p ∷ []) (set d k far) (k + 1)
-note-gone d k o p h q = wrote-as (ap (λ (x : ℕ). x ∷ []) (sym (ap (λ (b : Bool). cond b far 0) (eq-eqb o p q)))) (wrote-byte d k far h)
+pub note-gone : (d : List ℕ) (k o p : ℕ) → k < length d → o ≡ p → Wrote d k (noteOf o p ∷ []) (set d k farMove) (k + 1)
+note-gone d k o p h q = wrote-as (ap (λ (x : ℕ). x ∷ []) (sym (ap (λ (b : Bool). cond b farMove 0) (eq-eqb o p q)))) (wrote-byte d k farMove h)
 
 pub note-stays : (d : List ℕ) (k o p : ℕ) → k < length d → (o ≡ p → ⊥) → Wrote d k (noteOf o p ∷ []) (set d k 0) (k + 1)
-note-stays d k o p h q = wrote-as (ap (λ (x : ℕ). x ∷ []) (sym (ap (λ (b : Bool). cond b far 0) (ne-eqb o p q)))) (wrote-byte d k 0 h)
+note-stays d k o p h q = wrote-as (ap (λ (x : ℕ). x ∷ []) (sym (ap (λ (b : Bool). cond b farMove 0) (ne-eqb o p q)))) (wrote-byte d k 0 h)
 
 pub taken-low : (c : ℕ) → c < half → half + c ≡ takenCode c
 unfolding takenCode
@@ -37,15 +37,15 @@ pub taken-high : (c : ℕ) → half ≤ c → c ≡ takenCode c
 unfolding takenCode
 taken-high c h = rw (le-ltb c half h)
 
-pub land-down : (below : List ℕ) (d r x : ℕ) → 0 < d → x ≡ getD below (d - 1) far → r ≡ takenCode x → r ≡ takenCode (getD (far ∷ below) d far)
+pub land-down : (below : List ℕ) (d r x : ℕ) → 0 < d → x ≡ getD below (d - 1) farMove → r ≡ takenCode x → r ≡ takenCode (getD (farMove ∷ below) d farMove)
 land-down below zero r x h p q = absurd (omega arith)
-land-down below (suc d) r x h p q = let e : suc d - 1 ≡ d = omega arith in q ∙ ap takenCode (p ∙ ap (λ (k : ℕ). getD below k far) e)
+land-down below (suc d) r x h p q = let e : suc d - 1 ≡ d = omega arith in q ∙ ap takenCode (p ∙ ap (λ (k : ℕ). getD below k farMove) e)
 
-pub on-low : (gs : List ℕ) (c r : ℕ) → c < half → r ≡ getD gs c far → r ≡ onCode gs c
+pub on-low : (gs : List ℕ) (c r : ℕ) → c < half → r ≡ getD gs c farMove → r ≡ onCode gs c
 unfolding onCode
 on-low gs c r h p = rw (lt-ltb c half h) p
 
-pub on-high : (gs : List ℕ) (c r x : ℕ) → half ≤ c → x ≡ getD gs (c - half) far → r ≡ takenCode x → r ≡ onCode gs c
+pub on-high : (gs : List ℕ) (c r x : ℕ) → half ≤ c → x ≡ getD gs (c - half) farMove → r ≡ takenCode x → r ≡ onCode gs c
 unfolding onCode
 on-high gs c r x h p q = rw (le-ltb c half h) (q ∙ ap takenCode p)
 
@@ -116,7 +116,7 @@ land-length [] o = refl
 land-length (x ∷ m) o = go (eqb x 0) (land-length m (suc o)) (land-length m o)
   where
     go : (b : Bool) → length (landGo m (suc o)) ≡ length m → length (landGo m o) ≡ length m →
-        length (cond b (o ∷ landGo m (suc o)) (takenCode (getD (far ∷ landGo m o) x far) ∷ landGo m o)) ≡ suc (length m)
+        length (cond b (o ∷ landGo m (suc o)) (takenCode (getD (farMove ∷ landGo m o) x farMove) ∷ landGo m o)) ≡ suc (length m)
     go true p q = ap suc p
     go false p q = ap suc q
 
@@ -129,7 +129,7 @@ land-here : (m₀ : List ℕ) (k s : ℕ) → k < length m₀ → eqb (getD m₀
 unfolding landGo
 land-here m₀ k s h e = ap (λ (r : List ℕ). landGo r s) (drop-cons m₀ k 0 h) ∙ rw e
 
-land-there : (m₀ : List ℕ) (k s : ℕ) → k < length m₀ → eqb (getD m₀ k 0) 0 ≡ false → landGo (drop k m₀) s ≡ takenCode (getD (far ∷ landGo (drop (suc k) m₀) s) (getD m₀ k 0) far) ∷ landGo (drop (suc k) m₀) s
+land-there : (m₀ : List ℕ) (k s : ℕ) → k < length m₀ → eqb (getD m₀ k 0) 0 ≡ false → landGo (drop k m₀) s ≡ takenCode (getD (farMove ∷ landGo (drop (suc k) m₀) s) (getD m₀ k 0) farMove) ∷ landGo (drop (suc k) m₀) s
 unfolding landGo
 land-there m₀ k s h e = ap (λ (r : List ℕ). landGo r s) (drop-cons m₀ k 0 h) ∙ rw e
 
@@ -171,13 +171,13 @@ module _ {m₀ m : List ℕ} {k s : ℕ} (h : LandInv m₀ m (suc k) s) where
   set-is c = ap (λ (r : List ℕ). set r k c) around ∙ ap (λ (n : ℕ). set (take k m₀ ++ (d ∷ landGo (drop (suc k) m₀) s)) n c) (sym front) ∙ set-seam (take k m₀) d c (landGo (drop (suc k) m₀) s)
 
   pub land-on : (m′ : List ℕ) (r : ℕ) → r ≡ cond (eqb (getD m k 0) 0) (s - 1) s →
-      m′ ≡ set m k (cond (eqb (getD m k 0) 0) (s - 1) (takenCode (getD (far ∷ drop (k + 1) m) (getD m k 0) far))) → LandInv m₀ m′ k r
+      m′ ≡ set m k (cond (eqb (getD m k 0) 0) (s - 1) (takenCode (getD (farMove ∷ drop (k + 1) m) (getD m k 0) farMove))) → LandInv m₀ m′ k r
   land-on m′ r p q = go (eqb d 0) refl
     where
       code : ℕ
-      code = cond (eqb (getD m k 0) 0) (s - 1) (takenCode (getD (far ∷ drop (k + 1) m) (getD m k 0) far))
+      code = cond (eqb (getD m k 0) 0) (s - 1) (takenCode (getD (farMove ∷ drop (k + 1) m) (getD m k 0) farMove))
 
-      code-is : (b : Bool) → eqb d 0 ≡ b → cond (eqb (getD m k 0) 0) (s - 1) (takenCode (getD (far ∷ drop (k + 1) m) (getD m k 0) far)) ≡ cond b (s - 1) (takenCode (getD (far ∷ landGo (drop (suc k) m₀) s) d far))
+      code-is : (b : Bool) → eqb d 0 ≡ b → cond (eqb (getD m k 0) 0) (s - 1) (takenCode (getD (farMove ∷ drop (k + 1) m) (getD m k 0) farMove)) ≡ cond b (s - 1) (takenCode (getD (farMove ∷ landGo (drop (suc k) m₀) s) d farMove))
       code-is b e = rw (move-is, below-is, e)
 
       r-is : (b : Bool) → eqb d 0 ≡ b → r ≡ cond b (s - 1) s
@@ -298,18 +298,18 @@ land-some-at m₀ m zero s h q z = absurd (omega arith)
 land-some-at m₀ m (suc k) s h q z = land-some h (ap (λ (n : ℕ). getD m n 0) (sym (less-one k)) ∙ z)
 
 pub land-on-at : (m₀ m : List ℕ) (k s : ℕ) → LandInv m₀ m k s → 0 < k → (m′ : List ℕ) (r : ℕ) → r ≡ cond (eqb (getD m (k - 1) 0) 0) (s - 1) s →
-    m′ ≡ set m (k - 1) (cond (eqb (getD m (k - 1) 0) 0) (s - 1) (takenCode (getD (far ∷ drop (k - 1 + 1) m) (getD m (k - 1) 0) far))) → LandInv m₀ m′ (k - 1) r
+    m′ ≡ set m (k - 1) (cond (eqb (getD m (k - 1) 0) 0) (s - 1) (takenCode (getD (farMove ∷ drop (k - 1 + 1) m) (getD m (k - 1) 0) farMove))) → LandInv m₀ m′ (k - 1) r
 land-on-at m₀ m zero s h q m′ r = absurd (omega arith)
 land-on-at m₀ m (suc k) s h q m′ r =
-    subst (λ (n : ℕ). r ≡ cond (eqb (getD m n 0) 0) (s - 1) s → m′ ≡ set m n (cond (eqb (getD m n 0) 0) (s - 1) (takenCode (getD (far ∷ drop (n + 1) m) (getD m n 0) far))) → LandInv m₀ m′ n r)
+    subst (λ (n : ℕ). r ≡ cond (eqb (getD m n 0) 0) (s - 1) s → m′ ≡ set m n (cond (eqb (getD m n 0) 0) (s - 1) (takenCode (getD (farMove ∷ drop (n + 1) m) (getD m n 0) farMove))) → LandInv m₀ m′ n r)
     (sym (less-one k)) (land-on h m′ r)
 
 -- the part of a list from a place on
 pub rest-all : (n : ℕ) (m : List ℕ) → take (length m - n) (drop n m) ≡ drop n m
 rest-all n m = ap (λ (j : ℕ). take j (drop n m)) (sym (length-drop n m)) ∙ take-length (drop n m)
 
-pub line-down : (m : List ℕ) (k r x : ℕ) → r ≡ takenCode (getD (far ∷ take (length m - (k + 1)) (drop (k + 1) m)) x far) → r ≡ takenCode (getD (far ∷ drop (k + 1) m) x far)
-line-down m k r x h = h ∙ ap (λ (l : List ℕ). takenCode (getD (far ∷ l) x far)) (rest-all (k + 1) m)
+pub line-down : (m : List ℕ) (k r x : ℕ) → r ≡ takenCode (getD (farMove ∷ take (length m - (k + 1)) (drop (k + 1) m)) x farMove) → r ≡ takenCode (getD (farMove ∷ drop (k + 1) m) x farMove)
+line-down m k r x h = h ∙ ap (λ (l : List ℕ). takenCode (getD (farMove ∷ l) x farMove)) (rest-all (k + 1) m)
 
 -- ---- a table of lines that all stay
 

@@ -13,7 +13,7 @@ use Rattle.lines.specs.Lf.{upTo, all}
 use Rattle.lines.specs.Inner.Out.{putAt, Wrote}
 use Rattle.lines.proofs.Tests.{no, and-left, and-right, and-both}
 use Rattle.origins.specs.Fates.{Fate, lost, fateAt, fatesGo, fatesOf, onward, follow}
-use Rattle.origins.specs.Inner.Codes.{far, moveOf, movesOf, standing}
+use Rattle.origins.specs.Inner.Codes.{farMove, moveOf, movesOf, standing}
 use Rattle.origins.specs.Inner.Thin.{stays, onAct, thenActs, thin}
 use Rattle.origins.proofs.FateLaws.{outs-apply}
 use Rattle.origins.proofs.CodeLaws.{sound, standing-outs}
@@ -91,7 +91,7 @@ then-moves (a ∷ more) [] h = refl
 then-moves (keep ∷ more) (b ∷ bs) h = ap (λ (r : List ℕ). moveOf b ∷ r) (then-moves more bs h)
 then-moves (become x ∷ more) (b ∷ bs) h = ap (λ (n : ℕ). n ∷ movesOf (thenActs more bs)) (on-move x b) ∙ ap (λ (r : List ℕ). moveOf b ∷ r) (then-moves more bs h)
 then-moves (into n ∷ more) (b ∷ bs) h = no h
-then-moves (gone ∷ more) (b ∷ bs) h = ap (λ (r : List ℕ). far ∷ r) (then-moves more (b ∷ bs) h)
+then-moves (gone ∷ more) (b ∷ bs) h = ap (λ (r : List ℕ). farMove ∷ r) (then-moves more (b ∷ bs) h)
 
 plain-sound : (xs : List Act) → all plainly xs ≡ true → all sound xs ≡ true
 plain-sound [] h = refl

@@ -11,7 +11,7 @@ use Rattle.lines.proofs.Tests.{no, and-left, and-right, and-both}
 use Rattle.origins.specs.declared.Went.{Went}
 use Rattle.origins.specs.declared.Went.the-variants.{Equal, Changed, Inside, Away}
 use Rattle.origins.specs.declared.Form.the-variants.{Ol, Om}
-use Rattle.origins.specs.Form.{Shape, shapeOf, goneOf, sizeOf, fileOf}
+use Rattle.origins.specs.Form.{Shape, formShape, goneOf, sizeOf, fileOf}
 use Rattle.origins.specs.Read.{Said, says, wrong, readFile}
 use Rattle.origins.specs.Answers.{fitsOut, fits, fitsFrom, unfit, Turned, turned, denied, roomedFile, turnBy, turn}
 use Rattle.origins.proofs.RoundTrip.{bytes, read-file, write-file, file-length}
@@ -89,7 +89,7 @@ fits-all F G i (w ∷ ws) q h =
     and-both (fits-more F G i w q (and-left (fits F i w) (fitsFrom F (suc i) ws) h)) (fits-all F G (suc i) ws q (and-right (fits F i w) (fitsFrom F (suc i) ws) h))
 
 -- An OL file that is read is turned into OM, where there is room
-pub old-to-new : (s : List ℕ) (ws : List Went) (room : ℕ) → bytes s ≡ true → readFile (shapeOf Ol) s ≡ says ws → sizeOf (shapeOf Om) * length ws ≤ room →
-    turn (shapeOf Ol) (shapeOf Om) s room ≡ turned (fileOf (shapeOf Om) ws)
+pub old-to-new : (s : List ℕ) (ws : List Went) (room : ℕ) → bytes s ≡ true → readFile (formShape Ol) s ≡ says ws → sizeOf (formShape Om) * length ws ≤ room →
+    turn (formShape Ol) (formShape Om) s room ≡ turned (fileOf (formShape Om) ws)
 unfolding turn
-old-to-new s ws room b h k = rw (h, fits-all (shapeOf Ol) (shapeOf Om) 0 ws (omega arith) (write-file (shapeOf Ol) s ws b h .1), le-ltb room (sizeOf (shapeOf Om) * length ws) k)
+old-to-new s ws room b h k = rw (h, fits-all (formShape Ol) (formShape Om) 0 ws (omega arith) (write-file (formShape Ol) s ws b h .1), le-ltb room (sizeOf (formShape Om) * length ws) k)

@@ -17,7 +17,7 @@ use Rattle.lines.proofs.OutLaws.{Writing, writing-start, writing-as, writing-ro
 use Rattle.origins.specs.declared.Went.{Went}
 use Rattle.origins.specs.declared.Went.the-variants.{Equal, Changed, Inside, Away}
 use Rattle.origins.specs.Form.{Shape, sizeOf, recordBytes, recordsFrom, fileOf}
-use Rattle.origins.specs.Inner.Codes.{far, half}
+use Rattle.origins.specs.Inner.Codes.{farMove, half}
 use Rattle.origins.specs.Inner.Written.{saidOne, leftOver, wentsBy, bareLen, bareBy}
 use Rattle.origins.proofs.RawLines.{split-first, bare-is}
 use Rattle.origins.proofs.RoundTrip.{record-length}
@@ -54,17 +54,17 @@ bare-le s n = go (ltb 0 n && (ltb n (length s) && eqb (getD s (n - 1) 0) 13))
 
 -- ---- what is said of a line
 
-pub said-away : (l o : List ℕ) (c : ℕ) → c ≡ far → Away ≡ saidOne l o c
+pub said-away : (l o : List ℕ) (c : ℕ) → c ≡ farMove → Away ≡ saidOne l o c
 unfolding saidOne
 said-away l o c e = rw e
 
-pub said-inside : (l o : List ℕ) (c : ℕ) → (c ≡ far → ⊥) → half ≤ c → Inside (c - half) ≡ saidOne l o c
+pub said-inside : (l o : List ℕ) (c : ℕ) → (c ≡ farMove → ⊥) → half ≤ c → Inside (c - half) ≡ saidOne l o c
 unfolding saidOne
-said-inside l o c e h = rw (le-ltb c half h, ne-eqb c far e)
+said-inside l o c e h = rw (le-ltb c half h, ne-eqb c farMove e)
 
 -- the same, by whether the line stands
 abbrev saidBy : Bool → List ℕ → List ℕ → ℕ → Went
-saidBy b l o c = cond b (cond (same l o) (Equal c) (Changed c)) (cond (eqb c far) Away (Inside (c - half)))
+saidBy b l o c = cond b (cond (same l o) (Equal c) (Changed c)) (cond (eqb c farMove) Away (Inside (c - half)))
 
 pub said-kept : (l o : List ℕ) (c : ℕ) (b : Bool) → c < half → same l o ≡ b → cond b (Equal c) (Changed c) ≡ saidOne l o c
 unfolding saidOne

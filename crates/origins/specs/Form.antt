@@ -2,6 +2,7 @@
 use Prim.Native.Nat.{ℕ, zero, suc, _+_, _-_, _/_, _%_, _^_}
 use Prim.Native.Char.{code}
 use mathlib.Core.List.{List, [], _∷_, _++_}
+use Rattle.lines.specs.Lf.{lowBytes}
 use Rattle.origins.specs.declared.Went.{Went}
 use Rattle.origins.specs.declared.Went.the-variants.{Equal, Changed, Inside, Away}
 use Rattle.origins.specs.declared.Form.{Form}
@@ -13,9 +14,9 @@ pub record Shape : Type 0 where
   pub letter : ℕ
 
 -- `OL` has 2 bytes for each line, `OM` 4
-abbrev pub shapeOf : Form → Shape
-shapeOf form.Ol = record { width = 2; letter = code "L" }
-shapeOf form.Om = record { width = 4; letter = code "M" }
+abbrev pub formShape : Form → Shape
+formShape form.Ol = record { width = 2; letter = code "L" }
+formShape form.Om = record { width = 4; letter = code "M" }
 
 -- the number that stands for a line that is gone: the largest that fits
 abbrev pub goneOf : Shape → ℕ
@@ -24,11 +25,6 @@ goneOf F = 256 ^ F .width - 1
 -- how long a record is: the mark, the input line, the fate, the output line
 abbrev pub sizeOf : Shape → ℕ
 sizeOf F = 2 + 1 + (F .width + F .width)
-
--- a number in w bytes, the low byte first
-unfoldable pub lowBytes : ℕ → ℕ → List ℕ
-lowBytes zero n = []
-lowBytes (suc w) n = n % 256 ∷ lowBytes w (n / 256)
 
 -- the fates: kept with equal bytes, kept with other bytes, its value taken into another line, gone
 abbrev pub equalFate : ℕ

@@ -5,12 +5,12 @@ ghost use mathlib.Core.List.{[], _∷_};
 ghost use Prim.Native.Nat.{_≤_, _<_, _+_, _-_, min};
 ghost use lib.Dec.{eqb, ltb};
 ghost use lib.ListN.{length, getD, set, drop, replicate};
-ghost use Rattle.lines.specs.Lf.{upTo, linesOf};
+ghost use Rattle.lines.specs.Lf.{upTo, linesOf, lowBytes};
 ghost use Rattle.lines.specs.Steps.{splitLines};
 ghost use Rattle.lines.specs.Inner.Out.{Wrote};
 ghost use Rattle.origins.specs.Fates.{staying};
-ghost use Rattle.origins.specs.Form.{shapeOf, goneOf, sizeOf, lowBytes, fateByte, outLine, recordBytes, fileOf};
-ghost use Rattle.origins.specs.Inner.Codes.{half, far, noteOf, codesOf, takenCode, landGo, onCode, through, standing};
+ghost use Rattle.origins.specs.Form.{formShape, goneOf, sizeOf, fateByte, outLine, recordBytes, fileOf};
+ghost use Rattle.origins.specs.Inner.Codes.{half, farMove, noteOf, codesOf, takenCode, landGo, onCode, through, standing};
 ghost use Rattle.origins.specs.Inner.Written.{saidOne, wentsBy, bareBy};
 
 // What a record says of a line: it is kept with equal bytes as an output line, kept with other bytes, its value is inside one, or it is away.
@@ -132,7 +132,7 @@ fn taken_code(c: usize) -> usize
 
 // The code at a place; past the end a line is lost.
 fn code_at(codes: &[usize], i: usize) -> usize
-    ensures { λ r. ⌜ r ≡ getD (now (codes .entry)) i far ⌝ }
+    ensures { λ r. ⌜ r ≡ getD (now (codes .entry)) i farMove ⌝ }
 {
     if i < codes.len() {
         return codes[i];
@@ -143,7 +143,7 @@ fn code_at(codes: &[usize], i: usize) -> usize
 // Where a line goes that goes `d` lines down, by the codes of the lines below it.
 fn land_at(below: &[usize], d: usize) -> usize
     requires { ⌜ 0 < d ⌝ }
-    ensures { λ r. ⌜ r ≡ takenCode (getD (far ∷ now (below .entry)) d far) ⌝ }
+    ensures { λ r. ⌜ r ≡ takenCode (getD (farMove ∷ now (below .entry)) d farMove) ⌝ }
 {
     let c = code_at(below, d - 1);
     taken_code(c)
@@ -153,7 +153,7 @@ fn land_at(below: &[usize], d: usize) -> usize
 fn land_line(moves: &mut [usize], k: usize, s: usize) -> usize
     requires { ⌜ (k < length (now moves)) × (getD (now moves) k 0 ≡ 0 → 0 < s) ⌝ }
     ensures answer { λ r. ⌜ r ≡ cond (eqb (getD (now (moves .entry)) k 0) 0) (s - 1) s ⌝ }
-    ensures memory { λ _. ⌜ now (moves .exit) ≡ set (now (moves .entry)) k (cond (eqb (getD (now (moves .entry)) k 0) 0) (s - 1) (takenCode (getD (far ∷ drop (k + 1) (now (moves .entry))) (getD (now (moves .entry)) k 0) far))) ⌝ }
+    ensures memory { λ _. ⌜ now (moves .exit) ≡ set (now (moves .entry)) k (cond (eqb (getD (now (moves .entry)) k 0) 0) (s - 1) (takenCode (getD (farMove ∷ drop (k + 1) (now (moves .entry))) (getD (now (moves .entry)) k 0) farMove))) ⌝ }
 {
     let d = moves[k];
     if d == 0 {
@@ -216,7 +216,7 @@ pub fn follow(table: &mut [usize], codes: &[usize])
 
 // How many bytes a line has in a form.
 pub fn width_of(f: Form) -> usize
-    ensures { λ r. ⌜ r ≡ shapeOf f .width ⌝ }
+    ensures { λ r. ⌜ r ≡ formShape f .width ⌝ }
 {
     match f {
         Form::Ol => 2,
@@ -226,7 +226,7 @@ pub fn width_of(f: Form) -> usize
 
 // The second byte of the mark.
 pub fn letter_of(f: Form) -> u8
-    ensures { λ r. ⌜ r ≡ shapeOf f .letter ⌝ }
+    ensures { λ r. ⌜ r ≡ formShape f .letter ⌝ }
 {
     match f {
         Form::Ol => b'L',
@@ -236,7 +236,7 @@ pub fn letter_of(f: Form) -> u8
 
 // The number that stands for gone.
 pub fn gone_of(f: Form) -> usize
-    ensures { λ r. ⌜ r ≡ goneOf (shapeOf f) ⌝ }
+    ensures { λ r. ⌜ r ≡ goneOf (formShape f) ⌝ }
 {
     match f {
         Form::Ol => 65535,
@@ -246,7 +246,7 @@ pub fn gone_of(f: Form) -> usize
 
 // How long a record is.
 pub fn size_of(f: Form) -> usize
-    ensures { λ r. ⌜ r ≡ sizeOf (shapeOf f) ⌝ }
+    ensures { λ r. ⌜ r ≡ sizeOf (formShape f) ⌝ }
 {
     match f {
         Form::Ol => 7,
@@ -268,7 +268,7 @@ pub fn fate_byte(w: Went) -> u8
 
 // The output line of a record: for a line that is gone the number that stands for it.
 pub fn out_line(f: Form, w: Went) -> usize
-    ensures { λ r. ⌜ r ≡ outLine (shapeOf f) w ⌝ }
+    ensures { λ r. ⌜ r ≡ outLine (formShape f) w ⌝ }
 {
     match w {
         Went::Equal(n) => n,
@@ -297,8 +297,8 @@ fn put_number(out: &mut [u8], o: usize, w: usize, n: usize) -> usize
 
 // Writes the record of line `i`, and returns the place after it.
 pub fn put_record(out: &mut [u8], o: usize, f: Form, i: usize, w: Went) -> usize
-    requires { ⌜ o + sizeOf (shapeOf f) ≤ length (now out) ⌝ }
-    ensures { λ r. ⌜ Wrote (now (out .entry)) o (recordBytes (shapeOf f) i w) (now (out .exit)) r ⌝ }
+    requires { ⌜ o + sizeOf (formShape f) ≤ length (now out) ⌝ }
+    ensures { λ r. ⌜ Wrote (now (out .entry)) o (recordBytes (formShape f) i w) (now (out .exit)) r ⌝ }
 {
     let p = lines::put_byte(out, o, MARK);
     let q = lines::put_byte(out, p, letter_of(f));
@@ -362,8 +362,8 @@ fn next_out(lf: &[u8], q: usize, c: usize) -> usize
 
 // Writes the records of the lines of a raw text, by their codes, where `lf` has the lines that came out. Returns the place after them.
 pub fn put_records(f: Form, text: &[u8], lf: &[u8], table: &[usize], orig: &mut [u8]) -> usize
-    requires { ⌜ length (fileOf (shapeOf f) (wentsBy (linesOf (now lf)) (splitLines (now text)) (now table))) ≤ length (now orig) ⌝ }
-    ensures { λ r. ⌜ Wrote (now (orig .entry)) 0 (fileOf (shapeOf f) (wentsBy (linesOf (now (lf .entry))) (splitLines (now (text .entry))) (now (table .entry)))) (now (orig .exit)) r ⌝ }
+    requires { ⌜ length (fileOf (formShape f) (wentsBy (linesOf (now lf)) (splitLines (now text)) (now table))) ≤ length (now orig) ⌝ }
+    ensures { λ r. ⌜ Wrote (now (orig .entry)) 0 (fileOf (formShape f) (wentsBy (linesOf (now (lf .entry))) (splitLines (now (text .entry))) (now (table .entry)))) (now (orig .exit)) r ⌝ }
 {
     let mut i = 0;
     let mut p = 0;

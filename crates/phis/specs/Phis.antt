@@ -12,7 +12,7 @@ use Rattle.text.specs.Trim.{fromOf, trimStart, trimOf}
 use Rattle.names.specs.Names.{phiOf, phiText, phiIs}
 use Rattle.names.specs.declared.PhiName.{PhiName}
 use Rattle.names.specs.declared.PhiName.the-variants as name
-use Rattle.parse.specs.Parse.{letWord, bodyOf}
+use Rattle.parse.specs.Parse.{letWord, bodyOf, isLet}
 use Rattle.lexical.specs.Phi.{phiRhsPure}
 use Rattle.words.specs.Hits.{hits}
 use Rattle.decls.specs.Decls.{declAct}
@@ -20,10 +20,6 @@ use Rattle.reading.specs.Reading.{Reading, pureIn}
 use Rattle.reading.specs.Assign.{isAssign, leftOf, rightOf}
 
 -- ---- what a line is here. Only its front is trimmed: with white space after the `;` it is neither
-
--- `let ` .. `;`
-unfoldable pub isLet : List ℕ → Bool
-isLet t = ltb 4 (length t) && (prefixed letWord t && endsIn (code ";") t)
 
 abbrev pub isPhi : PhiName → Bool
 isPhi name.None = false

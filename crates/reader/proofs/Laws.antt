@@ -17,13 +17,13 @@ use Rattle.origins.specs.declared.Went.{Went}
 use Rattle.origins.specs.declared.Went.the-variants.{Away}
 use Rattle.origins.specs.declared.Form.{Form}
 use Rattle.origins.specs.declared.Form.the-variants as form
-use Rattle.origins.specs.Form.{Shape, shapeOf, goneOf, sizeOf, recordBytes, recordsFrom, fileOf}
+use Rattle.origins.specs.Form.{Shape, formShape, goneOf, sizeOf, recordBytes, recordsFrom, fileOf}
 use Rattle.origins.specs.Read.{lineIn, fateIn, outIn, faultIn, wentIn, Said, says, wrong, saidBy, readFrom, readFile}
 use Rattle.origins.specs.Answers.{isIn, behindFrom, behind, roomedLines, linesBy, linesFor, fitsOut, fits, fitsFrom, unfit, turnBy, turn}
 use Rattle.origins.proofs.RoundTrip.{Good, good-of, record-length, file-length}
 use Rattle.reader.specs.declared.Reply.{Reply}
 use Rattle.reader.specs.declared.Reply.the-variants.{Fine, Cut, WrongMark, OutOfOrder, UnknownFate, Disagree, Unfit, Short, NoRoom}
-use Rattle.reader.specs.Replies.{numberOf, placeOf, formIn, refusal, checkReply, linesReply, linesAfter, turnedReply, turnedAfter, wentsFrom, wentsIn}
+use Rattle.reader.specs.Replies.{replyNumber, replyPlace, formIn, refusal, checkReply, linesReply, linesAfter, turnedReply, turnedAfter, wentsFrom, wentsIn}
 use Rattle.reader.specs.Inner.Walk.{checkedFrom, oneIn}
 
 -- ---- numbers
@@ -60,10 +60,10 @@ four-is s i h = go (getD s i 0) (getD s (i + 1) 0) (drop (i + 2) s) q
     go : (a b : ℕ) (t : List ℕ) → drop i s ≡ a ∷ b ∷ t → word (take 2 t) * 65536 + word (take 2 (drop i s)) ≡ word (take 4 (drop i s))
     go a b t e = rw e (by a b (word (take 2 t)) (word (take 2 (a ∷ b ∷ t))) (two a b t) ∙ sym (four-of a b t))
 
-pub width-as : (f : Form) {x : Form} → f ≡ x → shapeOf x .width ≡ shapeOf f .width
-width-as f e = ap (λ (y : Form). shapeOf y .width) (sym e)
+pub width-as : (f : Form) {x : Form} → f ≡ x → formShape x .width ≡ formShape f .width
+width-as f e = ap (λ (y : Form). formShape y .width) (sym e)
 
-pub number-as : (f : Form) {x : Form} (s : List ℕ) (i : ℕ) → f ≡ x → word (take (shapeOf x .width) (drop i s)) ≡ word (take (shapeOf f .width) (drop i s))
+pub number-as : (f : Form) {x : Form} (s : List ℕ) (i : ℕ) → f ≡ x → word (take (formShape x .width) (drop i s)) ≡ word (take (formShape f .width) (drop i s))
 number-as f s i e = ap (λ (k : ℕ). word (take k (drop i s))) (width-as f e)
 
 pub line-is : (F : Shape) (s : List ℕ) (o : ℕ) → word (take (F .width) (drop (o + 2) s)) ≡ lineIn F (drop o s)
@@ -327,7 +327,7 @@ one-room n i w d k e h = let q : length (oneIn n i w) ≡ 1 = one-length n i w �
 
 -- ---- a record by its number
 
-pub record-in : (f : Form) (z i n : ℕ) → z ≡ sizeOf (shapeOf f) → i < n / z → z * i + z ≤ n
+pub record-in : (f : Form) (z i n : ℕ) → z ≡ sizeOf (formShape f) → i < n / z → z * i + z ≤ n
 record-in form.Ol z i n e h = let q : z ≡ 7 = e in go q h
   where
     go : z ≡ 7 → i < n / z → z * i + z ≤ n
@@ -337,7 +337,7 @@ record-in form.Om z i n e h = let q : z ≡ 11 = e in go q h
     go : z ≡ 11 → i < n / z → z * i + z ≤ n
     go q k = rw q (let m : i < n / 11 = subst (λ (y : ℕ). i < n / y) q k in omega arith)
 
-pub record-past : (f : Form) (z i n : ℕ) → z ≡ sizeOf (shapeOf f) → n / z ≤ i → n < z * i + z
+pub record-past : (f : Form) (z i n : ℕ) → z ≡ sizeOf (formShape f) → n / z ≤ i → n < z * i + z
 record-past form.Ol z i n e h = let q : z ≡ 7 = e in go q h
   where
     go : z ≡ 7 → n / z ≤ i → n < z * i + z
@@ -647,11 +647,11 @@ wents-length F (suc n) s = go (ltb (length s) (sizeOf F)) refl (wents-length F n
     go true e z = omega arith
     go false e z = let k = ltb-false (length s) (sizeOf F) e in let q = mul-suc (sizeOf F) (length (wentsFrom F n (drop (sizeOf F) s))) in omega (arith, length-drop (sizeOf F) s)
 
-pub count-small : (f g : Form) (s : List ℕ) (m z : ℕ) → m ≡ length (wentsIn (shapeOf f) s) → z ≡ sizeOf (shapeOf g) → z * m ≤ 2 * length s
+pub count-small : (f g : Form) (s : List ℕ) (m z : ℕ) → m ≡ length (wentsIn (formShape f) s) → z ≡ sizeOf (formShape g) → z * m ≤ 2 * length s
 unfolding wentsIn
-count-small f g s m z e q = by f g (wents-length (shapeOf f) (length s) s) q
+count-small f g s m z e q = by f g (wents-length (formShape f) (length s) s) q
   where
-    by : (x y : Form) → sizeOf (shapeOf x) * length (wentsFrom (shapeOf f) (length s) s) ≤ length s → z ≡ sizeOf (shapeOf y) → z * m ≤ 2 * length s
+    by : (x y : Form) → sizeOf (formShape x) * length (wentsFrom (formShape f) (length s) s) ≤ length s → z ≡ sizeOf (formShape y) → z * m ≤ 2 * length s
     by form.Ol form.Ol h r = let t : z ≡ 7 = r in rw t (omega arith)
     by form.Ol form.Om h r = let t : z ≡ 11 = r in rw t (omega arith)
     by form.Om form.Ol h r = let t : z ≡ 7 = r in rw t (omega arith)
@@ -682,8 +682,8 @@ module _ (G : Shape) (ws : List Went) (d : List ℕ) (m u : ℕ) (a : m ≡ leng
 
 -- ---- numbers and places
 
-pub reply-number : (r : Reply) {x : Reply} → r ≡ x → numberOf x ≡ numberOf r
-reply-number r e = ap numberOf (sym e)
+pub reply-number : (r : Reply) {x : Reply} → r ≡ x → replyNumber x ≡ replyNumber r
+reply-number r e = ap replyNumber (sym e)
 
-pub reply-place : (r : Reply) {x : Reply} → r ≡ x → placeOf x ≡ placeOf r
-reply-place r e = ap placeOf (sym e)
+pub reply-place : (r : Reply) {x : Reply} → r ≡ x → replyPlace x ≡ replyPlace r
+reply-place r e = ap replyPlace (sym e)

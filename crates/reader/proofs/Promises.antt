@@ -9,13 +9,13 @@ use lib.ListN.{length}
 use Rattle.origins.specs.declared.Went.{Went}
 use Rattle.origins.specs.declared.Form.{Form}
 use Rattle.origins.specs.declared.Form.the-variants.{Ol, Om}
-use Rattle.origins.specs.Form.{Shape, shapeOf, goneOf, fileOf}
+use Rattle.origins.specs.Form.{Shape, formShape, goneOf, fileOf}
 use Rattle.origins.specs.Read.{says, readFile}
 use Rattle.origins.specs.Answers.{behindFrom, behind, linesBy, linesFor, found, refused, denied, fitsFrom}
 use Rattle.origins.proofs.RoundTrip.{bytes, read-file, write-file}
 use Rattle.origins.proofs.Behind.{behind-gone}
 use Rattle.reader.specs.declared.Reply.the-variants.{Fine}
-use Rattle.reader.specs.Replies.{numberOf, placeOf, formIn, linesReply, checkReply, wentsIn, turnedReply}
+use Rattle.reader.specs.Replies.{replyNumber, replyPlace, formIn, linesReply, checkReply, wentsIn, turnedReply}
 use Rattle.reader.proofs.Laws.{said-wents, fine-says}
 
 -- What was written is read: as many records, and the same
@@ -32,7 +32,7 @@ gone-lines F s m room b h =
     ap (linesBy (goneOf F) room) q ∙ rw (g, le-ltb room 0 (omega arith))
 
 -- A refusal says the number and the place of its check
-pub lines-number : (c i : ℕ) → 1 ≤ c → c ≤ 6 → (numberOf (linesReply (refused c i)) ≡ c) × (placeOf (linesReply (refused c i)) ≡ i)
+pub lines-number : (c i : ℕ) → 1 ≤ c → c ≤ 6 → (replyNumber (linesReply (refused c i)) ≡ c) × (replyPlace (linesReply (refused c i)) ≡ i)
 lines-number zero i a b = absurd (omega arith)
 lines-number (suc zero) i a b = (refl, refl)
 lines-number (suc (suc zero)) i a b = (refl, refl)
@@ -42,7 +42,7 @@ lines-number (suc (suc (suc (suc (suc zero))))) i a b = (refl, refl)
 lines-number (suc (suc (suc (suc (suc (suc zero)))))) i a b = (refl, refl)
 lines-number (suc (suc (suc (suc (suc (suc (suc c))))))) i a b = absurd (omega arith)
 
-pub turn-number : (c i : ℕ) → 1 ≤ c → c ≤ 7 → (numberOf (turnedReply (denied c i)) ≡ c) × (placeOf (turnedReply (denied c i)) ≡ i)
+pub turn-number : (c i : ℕ) → 1 ≤ c → c ≤ 7 → (replyNumber (turnedReply (denied c i)) ≡ c) × (replyPlace (turnedReply (denied c i)) ≡ i)
 turn-number zero i a b = absurd (omega arith)
 turn-number (suc zero) i a b = (refl, refl)
 turn-number (suc (suc zero)) i a b = (refl, refl)
@@ -54,7 +54,7 @@ turn-number (suc (suc (suc (suc (suc (suc (suc zero))))))) i a b = (refl, refl)
 turn-number (suc (suc (suc (suc (suc (suc (suc (suc c)))))))) i a b = absurd (omega arith)
 
 -- A file that was written shows its form, where it has a record
-pub form-shown : (f : Form) (w : Went) (ws : List Went) → formIn (fileOf (shapeOf f) (w ∷ ws)) ≡ f
+pub form-shown : (f : Form) (w : Went) (ws : List Went) → formIn (fileOf (formShape f) (w ∷ ws)) ≡ f
 unfolding fileOf
 form-shown Ol w ws = refl
 form-shown Om w ws = refl

@@ -15,39 +15,39 @@ use Rattle.reader.specs.declared.Reply.{Reply}
 use Rattle.reader.specs.declared.Reply.the-variants.{Fine, Cut, WrongMark, OutOfOrder, UnknownFate, Disagree, Unfit, Short, NoRoom}
 
 -- the number of an answer, and its place: the record, or how much room is needed
-abbrev pub numberOf : Reply → ℕ
-numberOf (Fine i) = 0
-numberOf (Cut i) = 1
-numberOf (WrongMark i) = 2
-numberOf (OutOfOrder i) = 3
-numberOf (UnknownFate i) = 4
-numberOf (Disagree i) = 5
-numberOf (Unfit i) = 6
-numberOf (Short i) = 7
-numberOf (NoRoom i) = 6
+abbrev pub replyNumber : Reply → ℕ
+replyNumber (Fine i) = 0
+replyNumber (Cut i) = 1
+replyNumber (WrongMark i) = 2
+replyNumber (OutOfOrder i) = 3
+replyNumber (UnknownFate i) = 4
+replyNumber (Disagree i) = 5
+replyNumber (Unfit i) = 6
+replyNumber (Short i) = 7
+replyNumber (NoRoom i) = 6
 
-abbrev pub placeOf : Reply → ℕ
-placeOf (Fine i) = 0
-placeOf (Cut i) = i
-placeOf (WrongMark i) = i
-placeOf (OutOfOrder i) = i
-placeOf (UnknownFate i) = i
-placeOf (Disagree i) = i
-placeOf (Unfit i) = i
-placeOf (Short i) = i
-placeOf (NoRoom i) = i
+abbrev pub replyPlace : Reply → ℕ
+replyPlace (Fine i) = 0
+replyPlace (Cut i) = i
+replyPlace (WrongMark i) = i
+replyPlace (OutOfOrder i) = i
+replyPlace (UnknownFate i) = i
+replyPlace (Disagree i) = i
+replyPlace (Unfit i) = i
+replyPlace (Short i) = i
+replyPlace (NoRoom i) = i
 
 -- how much there is: records, lines or bytes
-abbrev pub countOf : Reply → ℕ
-countOf (Fine i) = i
-countOf (Cut i) = 0
-countOf (WrongMark i) = 0
-countOf (OutOfOrder i) = 0
-countOf (UnknownFate i) = 0
-countOf (Disagree i) = 0
-countOf (Unfit i) = 0
-countOf (Short i) = 0
-countOf (NoRoom i) = 0
+abbrev pub replyCount : Reply → ℕ
+replyCount (Fine i) = i
+replyCount (Cut i) = 0
+replyCount (WrongMark i) = 0
+replyCount (OutOfOrder i) = 0
+replyCount (UnknownFate i) = 0
+replyCount (Disagree i) = 0
+replyCount (Unfit i) = 0
+replyCount (Short i) = 0
+replyCount (NoRoom i) = 0
 
 -- a refusal by its number: 1 to 5 of the file, 6 a record that the other form cannot write, 7 too little room
 abbrev pub refusal : ℕ → ℕ → Reply

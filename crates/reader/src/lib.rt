@@ -7,10 +7,10 @@ ghost use lib.ListN.{length, getD, take, drop};
 ghost use Rattle.lines.specs.Lf.{word};
 ghost use Rattle.lines.specs.Inner.Out.{Wrote};
 ghost use Rattle.origins.specs.declared.Went.the-variants.{Away};
-ghost use Rattle.origins.specs.Form.{shapeOf, sizeOf, fileOf};
+ghost use Rattle.origins.specs.Form.{formShape, sizeOf, fileOf};
 ghost use Rattle.origins.specs.Read.{lineIn, fateIn, outIn, faultIn, wentBy, wentIn, says, readFile};
 ghost use Rattle.origins.specs.Answers.{isIn, behind, roomedLines, linesFor, fits, unfit, turnBy, turn};
-ghost use Rattle.reader.specs.Replies.{numberOf, placeOf, countOf, formIn, refusal, checkReply, linesReply, linesAfter, turnedReply, turnedAfter, wentsIn};
+ghost use Rattle.reader.specs.Replies.{replyNumber, replyPlace, replyCount, formIn, refusal, checkReply, linesReply, linesAfter, turnedReply, turnedAfter, wentsIn};
 ghost use Rattle.reader.specs.Inner.Walk.{oneIn};
 
 // What is answered: how much there is, or why there is nothing, with the record, or the room that is needed.
@@ -28,7 +28,7 @@ pub enum Reply {
 
 // The number of an answer: 0, or that of the check that refused.
 pub fn number_of(r: Reply) -> u8
-    ensures { λ x. ⌜ x ≡ numberOf r ⌝ }
+    ensures { λ x. ⌜ x ≡ replyNumber r ⌝ }
 {
     match r {
         Reply::Fine(i) => 0,
@@ -45,7 +45,7 @@ pub fn number_of(r: Reply) -> u8
 
 // The place of a refusal: the record, or how much room is needed; 0 where there is none.
 pub fn place_of(r: Reply) -> usize
-    ensures { λ x. ⌜ x ≡ placeOf r ⌝ }
+    ensures { λ x. ⌜ x ≡ replyPlace r ⌝ }
 {
     match r {
         Reply::Fine(i) => 0,
@@ -62,7 +62,7 @@ pub fn place_of(r: Reply) -> usize
 
 // How much there is: records, lines or bytes; 0 for a refusal.
 pub fn count_of(r: Reply) -> usize
-    ensures { λ x. ⌜ x ≡ countOf r ⌝ }
+    ensures { λ x. ⌜ x ≡ replyCount r ⌝ }
 {
     match r {
         Reply::Fine(i) => i,
@@ -100,8 +100,8 @@ fn two_at(s: &[u8], i: usize) -> usize
 
 // The number of a line, in the bytes of a form.
 fn number_at(f: origins::Form, s: &[u8], i: usize) -> usize
-    requires { ⌜ i + shapeOf f .width ≤ length (now s) ⌝ }
-    ensures { λ r. ⌜ r ≡ word (take (shapeOf f .width) (drop i (now (s .entry)))) ⌝ }
+    requires { ⌜ i + formShape f .width ≤ length (now s) ⌝ }
+    ensures { λ r. ⌜ r ≡ word (take (formShape f .width) (drop i (now (s .entry)))) ⌝ }
 {
     match f {
         origins::Form::Ol => two_at(s, i),
@@ -115,23 +115,23 @@ fn number_at(f: origins::Form, s: &[u8], i: usize) -> usize
 
 // The parts of the record at `o`: its line, its fate and its output line.
 fn line_at(f: origins::Form, s: &[u8], o: usize) -> usize
-    requires { ⌜ o + sizeOf (shapeOf f) ≤ length (now s) ⌝ }
-    ensures { λ r. ⌜ r ≡ lineIn (shapeOf f) (drop o (now (s .entry))) ⌝ }
+    requires { ⌜ o + sizeOf (formShape f) ≤ length (now s) ⌝ }
+    ensures { λ r. ⌜ r ≡ lineIn (formShape f) (drop o (now (s .entry))) ⌝ }
 {
     number_at(f, s, o + 2)
 }
 
 fn fate_at(f: origins::Form, s: &[u8], o: usize) -> u8
-    requires { ⌜ o + sizeOf (shapeOf f) ≤ length (now s) ⌝ }
-    ensures { λ r. ⌜ r ≡ fateIn (shapeOf f) (drop o (now (s .entry))) ⌝ }
+    requires { ⌜ o + sizeOf (formShape f) ≤ length (now s) ⌝ }
+    ensures { λ r. ⌜ r ≡ fateIn (formShape f) (drop o (now (s .entry))) ⌝ }
 {
     let w = origins::width_of(f);
     s[o + 2 + w]
 }
 
 fn out_at(f: origins::Form, s: &[u8], o: usize) -> usize
-    requires { ⌜ o + sizeOf (shapeOf f) ≤ length (now s) ⌝ }
-    ensures { λ r. ⌜ r ≡ outIn (shapeOf f) (drop o (now (s .entry))) ⌝ }
+    requires { ⌜ o + sizeOf (formShape f) ≤ length (now s) ⌝ }
+    ensures { λ r. ⌜ r ≡ outIn (formShape f) (drop o (now (s .entry))) ⌝ }
 {
     let w = origins::width_of(f);
     number_at(f, s, o + 3 + w)
@@ -140,7 +140,7 @@ fn out_at(f: origins::Form, s: &[u8], o: usize) -> usize
 // What is wrong with the record of line `i` at `o`: 0, nothing; else the number of the first check that fails.
 fn fault_at(f: origins::Form, s: &[u8], i: usize, o: usize) -> u8
     requires { ⌜ o ≤ length (now s) ⌝ }
-    ensures { λ r. ⌜ r ≡ faultIn (shapeOf f) i (drop o (now (s .entry))) ⌝ }
+    ensures { λ r. ⌜ r ≡ faultIn (formShape f) i (drop o (now (s .entry))) ⌝ }
 {
     let z = origins::size_of(f);
     if s.len() - o < z {
@@ -202,7 +202,7 @@ fn refusal_of(c: u8, i: usize) -> Reply
 
 // Checks a file: how many records it has, or what is wrong with the first that is wrong.
 pub fn check(f: origins::Form, file: &[u8]) -> Reply
-    ensures { λ r. ⌜ r ≡ checkReply (readFile (shapeOf f) (now (file .entry))) ⌝ }
+    ensures { λ r. ⌜ r ≡ checkReply (readFile (formShape f) (now (file .entry))) ⌝ }
 {
     let z = origins::size_of(f);
     let mut i = 0;
@@ -236,8 +236,8 @@ fn went_by(k: u8, n: usize) -> origins::Went
 
 // What the record at `o` says.
 fn went_at(f: origins::Form, s: &[u8], o: usize) -> origins::Went
-    requires { ⌜ o + sizeOf (shapeOf f) ≤ length (now s) ⌝ }
-    ensures { λ r. ⌜ r ≡ wentIn (shapeOf f) (drop o (now (s .entry))) ⌝ }
+    requires { ⌜ o + sizeOf (formShape f) ≤ length (now s) ⌝ }
+    ensures { λ r. ⌜ r ≡ wentIn (formShape f) (drop o (now (s .entry))) ⌝ }
 {
     let k = fate_at(f, s, o);
     let n = out_at(f, s, o);
@@ -246,7 +246,7 @@ fn went_at(f: origins::Form, s: &[u8], o: usize) -> origins::Went
 
 // What record `i` of a file says; past its whole records, that the line is away.
 pub fn record_at(f: origins::Form, file: &[u8], i: usize) -> origins::Went
-    ensures { λ r. ⌜ r ≡ getD (wentsIn (shapeOf f) (now (file .entry))) i Away ⌝ }
+    ensures { λ r. ⌜ r ≡ getD (wentsIn (formShape f) (now (file .entry))) i Away ⌝ }
 {
     let z = origins::size_of(f);
     if i < file.len() / z {
@@ -291,7 +291,7 @@ fn put_in(room: &mut [usize], k: usize, i: usize, w: origins::Went, n: usize) ->
 
 // How many lines are in output line `n`.
 fn count_behind(f: origins::Form, file: &[u8], n: usize) -> usize
-    ensures { λ r. ⌜ r ≡ length (behind n (wentsIn (shapeOf f) (now (file .entry)))) ⌝ }
+    ensures { λ r. ⌜ r ≡ length (behind n (wentsIn (formShape f) (now (file .entry)))) ⌝ }
 {
     let z = origins::size_of(f);
     let mut o = 0;
@@ -307,8 +307,8 @@ fn count_behind(f: origins::Form, file: &[u8], n: usize) -> usize
 
 // Writes the lines that are in output line `n`, and returns how many.
 fn put_behind(f: origins::Form, file: &[u8], n: usize, room: &mut [usize]) -> usize
-    requires { ⌜ length (behind n (wentsIn (shapeOf f) (now file))) ≤ length (now room) ⌝ }
-    ensures { λ r. ⌜ Wrote (now (room .entry)) 0 (behind n (wentsIn (shapeOf f) (now (file .entry)))) (now (room .exit)) r ⌝ }
+    requires { ⌜ length (behind n (wentsIn (formShape f) (now file))) ≤ length (now room) ⌝ }
+    ensures { λ r. ⌜ Wrote (now (room .entry)) 0 (behind n (wentsIn (formShape f) (now (file .entry)))) (now (room .exit)) r ⌝ }
 {
     let z = origins::size_of(f);
     let mut i = 0;
@@ -325,8 +325,8 @@ fn put_behind(f: origins::Form, file: &[u8], n: usize, room: &mut [usize]) -> us
 
 // The lines behind an output line of a file that is right, where there is room.
 fn answer_lines(f: origins::Form, file: &[u8], n: usize, room: &mut [usize]) -> Reply
-    ensures answer { λ r. ⌜ r ≡ linesReply (roomedLines (behind n (wentsIn (shapeOf f) (now (file .entry)))) (length (now (room .entry)))) ⌝ }
-    ensures memory { λ _. ⌜ now (room .exit) ≡ linesAfter (roomedLines (behind n (wentsIn (shapeOf f) (now (file .entry)))) (length (now (room .entry)))) (now (room .entry)) ⌝ }
+    ensures answer { λ r. ⌜ r ≡ linesReply (roomedLines (behind n (wentsIn (formShape f) (now (file .entry)))) (length (now (room .entry)))) ⌝ }
+    ensures memory { λ _. ⌜ now (room .exit) ≡ linesAfter (roomedLines (behind n (wentsIn (formShape f) (now (file .entry)))) (length (now (room .entry)))) (now (room .entry)) ⌝ }
 {
     let k = count_behind(f, file, n);
     if room.len() < k {
@@ -338,8 +338,8 @@ fn answer_lines(f: origins::Form, file: &[u8], n: usize, room: &mut [usize]) -> 
 
 // Writes the lines that are in output line `n` of a file, ascending, and answers how many.
 pub fn lines_of(f: origins::Form, file: &[u8], n: usize, room: &mut [usize]) -> Reply
-    ensures answer { λ r. ⌜ r ≡ linesReply (linesFor (shapeOf f) (now (file .entry)) n (length (now (room .entry)))) ⌝ }
-    ensures memory { λ _. ⌜ now (room .exit) ≡ linesAfter (linesFor (shapeOf f) (now (file .entry)) n (length (now (room .entry)))) (now (room .entry)) ⌝ }
+    ensures answer { λ r. ⌜ r ≡ linesReply (linesFor (formShape f) (now (file .entry)) n (length (now (room .entry)))) ⌝ }
+    ensures memory { λ _. ⌜ now (room .exit) ≡ linesAfter (linesFor (formShape f) (now (file .entry)) n (length (now (room .entry)))) (now (room .entry)) ⌝ }
 {
     match check(f, file) {
         Reply::Fine(m) => answer_lines(f, file, n, room),
@@ -356,7 +356,7 @@ pub fn lines_of(f: origins::Form, file: &[u8], n: usize, room: &mut [usize]) -> 
 
 // Whether the record of line `i` can be written in a form.
 fn fits_in(g: origins::Form, i: usize, w: origins::Went) -> bool
-    ensures { λ r. ⌜ r ≡ fits (shapeOf g) i w ⌝ }
+    ensures { λ r. ⌜ r ≡ fits (formShape g) i w ⌝ }
 {
     let n = origins::gone_of(g);
     if i > n {
@@ -372,7 +372,7 @@ fn fits_in(g: origins::Form, i: usize, w: origins::Went) -> bool
 
 // The first record of a file that cannot be written in a form, or how many there are.
 fn unfit_at(f: origins::Form, g: origins::Form, file: &[u8]) -> usize
-    ensures { λ r. ⌜ r ≡ unfit (shapeOf g) 0 (wentsIn (shapeOf f) (now (file .entry))) ⌝ }
+    ensures { λ r. ⌜ r ≡ unfit (formShape g) 0 (wentsIn (formShape f) (now (file .entry))) ⌝ }
 {
     let z = origins::size_of(f);
     let mut i = 0;
@@ -391,8 +391,8 @@ fn unfit_at(f: origins::Form, g: origins::Form, file: &[u8]) -> usize
 
 // Writes the records of a file in a form, and returns the place after them.
 fn put_file(f: origins::Form, g: origins::Form, file: &[u8], out: &mut [u8]) -> usize
-    requires { ⌜ length (fileOf (shapeOf g) (wentsIn (shapeOf f) (now file))) ≤ length (now out) ⌝ }
-    ensures { λ r. ⌜ Wrote (now (out .entry)) 0 (fileOf (shapeOf g) (wentsIn (shapeOf f) (now (file .entry)))) (now (out .exit)) r ⌝ }
+    requires { ⌜ length (fileOf (formShape g) (wentsIn (formShape f) (now file))) ≤ length (now out) ⌝ }
+    ensures { λ r. ⌜ Wrote (now (out .entry)) 0 (fileOf (formShape g) (wentsIn (formShape f) (now (file .entry)))) (now (out .exit)) r ⌝ }
 {
     let z = origins::size_of(f);
     let mut i = 0;
@@ -409,9 +409,9 @@ fn put_file(f: origins::Form, g: origins::Form, file: &[u8], out: &mut [u8]) -> 
 
 // Turns a file of `m` records that is right, where they fit and there is room.
 fn answer_turn(f: origins::Form, g: origins::Form, file: &[u8], m: usize, out: &mut [u8]) -> Reply
-    requires { ⌜ m ≡ length (wentsIn (shapeOf f) (now file)) ⌝ }
-    ensures answer { λ r. ⌜ r ≡ turnedReply (turnBy (shapeOf g) (length (now (out .entry))) (says (wentsIn (shapeOf f) (now (file .entry))))) ⌝ }
-    ensures memory { λ _. ⌜ now (out .exit) ≡ turnedAfter (turnBy (shapeOf g) (length (now (out .entry))) (says (wentsIn (shapeOf f) (now (file .entry))))) (now (out .entry)) ⌝ }
+    requires { ⌜ m ≡ length (wentsIn (formShape f) (now file)) ⌝ }
+    ensures answer { λ r. ⌜ r ≡ turnedReply (turnBy (formShape g) (length (now (out .entry))) (says (wentsIn (formShape f) (now (file .entry))))) ⌝ }
+    ensures memory { λ _. ⌜ now (out .exit) ≡ turnedAfter (turnBy (formShape g) (length (now (out .entry))) (says (wentsIn (formShape f) (now (file .entry))))) (now (out .entry)) ⌝ }
 {
     let u = unfit_at(f, g, file);
     if u < m {
@@ -428,8 +428,8 @@ fn answer_turn(f: origins::Form, g: origins::Form, file: &[u8], m: usize, out: &
 
 // Writes the records of a file of one form in another, and answers how many bytes they are.
 pub fn turn(f: origins::Form, g: origins::Form, file: &[u8], out: &mut [u8]) -> Reply
-    ensures answer { λ r. ⌜ r ≡ turnedReply (turn (shapeOf f) (shapeOf g) (now (file .entry)) (length (now (out .entry)))) ⌝ }
-    ensures memory { λ _. ⌜ now (out .exit) ≡ turnedAfter (turn (shapeOf f) (shapeOf g) (now (file .entry)) (length (now (out .entry)))) (now (out .entry)) ⌝ }
+    ensures answer { λ r. ⌜ r ≡ turnedReply (turn (formShape f) (formShape g) (now (file .entry)) (length (now (out .entry)))) ⌝ }
+    ensures memory { λ _. ⌜ now (out .exit) ≡ turnedAfter (turn (formShape f) (formShape g) (now (file .entry)) (length (now (out .entry)))) (now (out .entry)) ⌝ }
 {
     match check(f, file) {
         Reply::Fine(m) => answer_turn(f, g, file, m, out),

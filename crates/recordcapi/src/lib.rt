@@ -2,15 +2,15 @@
 ghost use mathlib.Core.Path.{_≡_};
 ghost use Rattle.origins.specs.declared.Form.the-variants.{Ol, Om};
 ghost use Rattle.origins.specs.Form.{fateByte, outLine};
-ghost use Rattle.reader.specs.Replies.{numberOf, placeOf, countOf, linesReply, linesAfter, turnedReply, turnedAfter};
-ghost use Rattle.recordcapi.specs.Called.{shown, checked, recordIn, linesIn, turnedTo};
+ghost use Rattle.reader.specs.Replies.{replyNumber, replyPlace, replyCount, linesReply, linesAfter, turnedReply, turnedAfter};
+ghost use Rattle.recordcapi.specs.Called.{shown, checkedFile, recordIn, linesAsked, turnedTo};
 
 // Checks a file. Returns the number of the answer, and stores how many records there are and the place.
 #[no_mangle]
 pub extern "C" fn optrecords_check(file: &[u8], count: &mut usize, place: &mut usize) -> u8
-    ensures number { λ r. ⌜ r ≡ numberOf (checked (now (file .entry))) ⌝ }
-    ensures count { λ _. ⌜ now (count .exit) ≡ countOf (checked (now (file .entry))) ⌝ }
-    ensures place { λ _. ⌜ now (place .exit) ≡ placeOf (checked (now (file .entry))) ⌝ }
+    ensures number { λ r. ⌜ r ≡ replyNumber (checkedFile (now (file .entry))) ⌝ }
+    ensures count { λ _. ⌜ now (count .exit) ≡ replyCount (checkedFile (now (file .entry))) ⌝ }
+    ensures place { λ _. ⌜ now (place .exit) ≡ replyPlace (checkedFile (now (file .entry))) ⌝ }
 {
     let f = reader::form_of(file);
     let r = reader::check(f, file);
@@ -40,10 +40,10 @@ pub extern "C" fn optrecords_lines(
     count: &mut usize,
     place: &mut usize,
 ) -> u8
-    ensures number { λ r. ⌜ r ≡ numberOf (linesReply (linesIn (now (file .entry)) n (now (room .entry)))) ⌝ }
-    ensures count { λ _. ⌜ now (count .exit) ≡ countOf (linesReply (linesIn (now (file .entry)) n (now (room .entry)))) ⌝ }
-    ensures place { λ _. ⌜ now (place .exit) ≡ placeOf (linesReply (linesIn (now (file .entry)) n (now (room .entry)))) ⌝ }
-    ensures memory { λ _. ⌜ now (room .exit) ≡ linesAfter (linesIn (now (file .entry)) n (now (room .entry))) (now (room .entry)) ⌝ }
+    ensures number { λ r. ⌜ r ≡ replyNumber (linesReply (linesAsked (now (file .entry)) n (now (room .entry)))) ⌝ }
+    ensures count { λ _. ⌜ now (count .exit) ≡ replyCount (linesReply (linesAsked (now (file .entry)) n (now (room .entry)))) ⌝ }
+    ensures place { λ _. ⌜ now (place .exit) ≡ replyPlace (linesReply (linesAsked (now (file .entry)) n (now (room .entry)))) ⌝ }
+    ensures memory { λ _. ⌜ now (room .exit) ≡ linesAfter (linesAsked (now (file .entry)) n (now (room .entry))) (now (room .entry)) ⌝ }
 {
     let f = reader::form_of(file);
     let r = reader::lines_of(f, file, n, room);
@@ -60,9 +60,9 @@ pub extern "C" fn optrecords_to_ol(
     count: &mut usize,
     place: &mut usize,
 ) -> u8
-    ensures number { λ r. ⌜ r ≡ numberOf (turnedReply (turnedTo Ol (now (file .entry)) (now (out .entry)))) ⌝ }
-    ensures count { λ _. ⌜ now (count .exit) ≡ countOf (turnedReply (turnedTo Ol (now (file .entry)) (now (out .entry)))) ⌝ }
-    ensures place { λ _. ⌜ now (place .exit) ≡ placeOf (turnedReply (turnedTo Ol (now (file .entry)) (now (out .entry)))) ⌝ }
+    ensures number { λ r. ⌜ r ≡ replyNumber (turnedReply (turnedTo Ol (now (file .entry)) (now (out .entry)))) ⌝ }
+    ensures count { λ _. ⌜ now (count .exit) ≡ replyCount (turnedReply (turnedTo Ol (now (file .entry)) (now (out .entry)))) ⌝ }
+    ensures place { λ _. ⌜ now (place .exit) ≡ replyPlace (turnedReply (turnedTo Ol (now (file .entry)) (now (out .entry)))) ⌝ }
     ensures memory { λ _. ⌜ now (out .exit) ≡ turnedAfter (turnedTo Ol (now (file .entry)) (now (out .entry))) (now (out .entry)) ⌝ }
 {
     let f = reader::form_of(file);
@@ -80,9 +80,9 @@ pub extern "C" fn optrecords_to_om(
     count: &mut usize,
     place: &mut usize,
 ) -> u8
-    ensures number { λ r. ⌜ r ≡ numberOf (turnedReply (turnedTo Om (now (file .entry)) (now (out .entry)))) ⌝ }
-    ensures count { λ _. ⌜ now (count .exit) ≡ countOf (turnedReply (turnedTo Om (now (file .entry)) (now (out .entry)))) ⌝ }
-    ensures place { λ _. ⌜ now (place .exit) ≡ placeOf (turnedReply (turnedTo Om (now (file .entry)) (now (out .entry)))) ⌝ }
+    ensures number { λ r. ⌜ r ≡ replyNumber (turnedReply (turnedTo Om (now (file .entry)) (now (out .entry)))) ⌝ }
+    ensures count { λ _. ⌜ now (count .exit) ≡ replyCount (turnedReply (turnedTo Om (now (file .entry)) (now (out .entry)))) ⌝ }
+    ensures place { λ _. ⌜ now (place .exit) ≡ replyPlace (turnedReply (turnedTo Om (now (file .entry)) (now (out .entry)))) ⌝ }
     ensures memory { λ _. ⌜ now (out .exit) ≡ turnedAfter (turnedTo Om (now (file .entry)) (now (out .entry))) (now (out .entry)) ⌝ }
 {
     let f = reader::form_of(file);

@@ -17,7 +17,7 @@ use Rattle.place.proofs.Blocks.{length-ids}
 use Rattle.place.proofs.Fills.{filled-length}
 use Rattle.place.proofs.Marks.{marks-length}
 use Rattle.records.specs.declared.LineRec.{LineRec}
-use Rattle.records.specs.Inner.Records.{noRec, recAt, recordsGo, recordsOf, startBelow, regionBelow, Above, recBy, recordsBy, lastOf, windowAt, Told}
+use Rattle.records.specs.Inner.Records.{noRec, recAt, recordsGo, recordsOf, startBelow, regionBelow, Above, recBy, recordsBy, lastRecord, windowAt, Told}
 use Rattle.records.proofs.Laws.{Filling, filling-start, filling-as, filling-place, filling-put, filling-end, records-count}
 
 -- ---- the loop of `fill`
@@ -40,14 +40,14 @@ by-none es bs n k i c e = ap (λ (x : ℕ). recordsBy es bs x k i c) e
 -- j of the m records are put: the next line begins at i, and c is the region above it
 pub record WindowInv (es bs : List ℕ) (n k : ℕ) (d₀ d : List LineRec) (m i₀ c₀ i c j : ℕ) : Type 0 where
   pub count : m ≡ min (length d₀) (n - k)
-  pub start : i₀ ≡ startBelow k (lastOf d₀)
-  pub region : c₀ ≡ regionBelow k (lastOf d₀)
+  pub start : i₀ ≡ startBelow k (lastRecord d₀)
+  pub region : c₀ ≡ regionBelow k (lastRecord d₀)
   pub filling : Filling (recordsBy es bs m k i₀ c₀) (recordsBy es bs (m - j) (k + j) i c) d₀ d j
   pub low : c ≤ k + j
 
-pub window-start : (es bs : List ℕ) (n k : ℕ) (d : List LineRec) {m i c : ℕ} {a : LineRec} → m ≡ min (length d) (n - k) → a ≡ lastOf d → i ≡ startBelow k a → c ≡ regionBelow k a → regionBelow k (lastOf d) ≤ k → WindowInv es bs n k d d m i c i c 0
+pub window-start : (es bs : List ℕ) (n k : ℕ) (d : List LineRec) {m i c : ℕ} {a : LineRec} → m ≡ min (length d) (n - k) → a ≡ lastRecord d → i ≡ startBelow k a → c ≡ regionBelow k a → regionBelow k (lastRecord d) ≤ k → WindowInv es bs n k d d m i c i c 0
 window-start es bs n k d {m} {i} {c} {a} e g p q l =
-    let z : c ≡ regionBelow k (lastOf d) = q ∙ ap (regionBelow k) g in
+    let z : c ≡ regionBelow k (lastRecord d) = q ∙ ap (regionBelow k) g in
     record {
       count = e;
       start = p ∙ ap (startBelow k) g;
@@ -64,7 +64,7 @@ module _ {es bs : List ℕ} {n k : ℕ} {d₀ d : List LineRec} {m i₀ c₀ i c
       let f = filling-end (filling-as (by-none es bs (m - j) (k + j) i c (omega arith)) (h .filling)) in
       f .1 ∙ ap (λ (x : ℕ). recordsBy es bs m k i₀ c₀ ++ drop x d₀) (by-length es bs m k i₀ c₀) ∙ ap (λ (x : ℕ). recordsBy es bs x k i₀ c₀ ++ drop x d₀) (h .count)
       ∙ ap (λ (x : ℕ). recordsBy es bs (min (length d₀) (n - k)) k x c₀ ++ drop (min (length d₀) (n - k)) d₀) (h .start)
-      ∙ ap (λ (x : ℕ). recordsBy es bs (min (length d₀) (n - k)) k (startBelow k (lastOf d₀)) x ++ drop (min (length d₀) (n - k)) d₀) (h .region)
+      ∙ ap (λ (x : ℕ). recordsBy es bs (min (length d₀) (n - k)) k (startBelow k (lastRecord d₀)) x ++ drop (min (length d₀) (n - k)) d₀) (h .region)
 
   module _ (l : j < m) where
     here : recordsBy es bs (m - j) (k + j) i c ≡ recBy i c (getD es (k + j) 0) (getD bs (k + j) 0) ∷ recordsBy es bs (m - (j + 1)) (k + (j + 1)) (getD es (k + j) 0 / 2 + 1) (c + getD es (k + j) 0 % 2)
@@ -201,19 +201,19 @@ pub record Shows (rs d : List LineRec) (past : ℕ) : Type 0 where
 pub shows-start : (rs d : List LineRec) → Shows rs d 0
 shows-start rs d = record { front = λ x p q r. absurd (omega (arith, p)) }
 
-last-is : {rs d : List LineRec} (p : ℕ) → Shows rs d (suc p) → 0 < length d → p < length rs → lastOf d ≡ getD rs p noRec
+last-is : {rs d : List LineRec} (p : ℕ) → Shows rs d (suc p) → 0 < length d → p < length rs → lastRecord d ≡ getD rs p noRec
 last-is {rs} {d} p h w l = ap (λ (x : ℕ). getD d x noRec) (let z : length d - 1 ≡ p + length d - suc p = omega (arith, w) in z) ∙ h .front p (omega arith) (omega (arith, w)) l
 
-last-start : {rs d : List LineRec} (p : ℕ) → Shows rs d p → 0 < length d → p ≤ length rs → startBelow p (lastOf d) ≡ startAt 0 rs p
+last-start : {rs d : List LineRec} (p : ℕ) → Shows rs d p → 0 < length d → p ≤ length rs → startBelow p (lastRecord d) ≡ startAt 0 rs p
 unfolding startAt
 last-start zero h w l = refl
 last-start {rs} {d} (suc p) h w l =
-    ap (λ (b : Bool). cond b 0 (lastOf d .end + 1)) (ne-eqb (suc p) 0 (λ e. omega (arith, e))) ∙ add-one (lastOf d .end) ∙ ap (λ (r : LineRec). suc (r .end)) (last-is p h w (omega (arith, l)))
+    ap (λ (b : Bool). cond b 0 (lastRecord d .end + 1)) (ne-eqb (suc p) 0 (λ e. omega (arith, e))) ∙ add-one (lastRecord d .end) ∙ ap (λ (r : LineRec). suc (r .end)) (last-is p h w (omega (arith, l)))
 
-last-region : {rs d : List LineRec} (p : ℕ) → Shows rs d p → 0 < length d → p ≤ length rs → regionBelow p (lastOf d) ≡ regionAt 0 rs p
+last-region : {rs d : List LineRec} (p : ℕ) → Shows rs d p → 0 < length d → p ≤ length rs → regionBelow p (lastRecord d) ≡ regionAt 0 rs p
 unfolding regionAt
 last-region zero h w l = refl
-last-region {rs} {d} (suc p) h w l = ap (λ (b : Bool). cond b 0 (lastOf d .region .0)) (ne-eqb (suc p) 0 (λ e. omega (arith, e))) ∙ ap (λ (r : LineRec). r .region .0) (last-is p h w (omega (arith, l)))
+last-region {rs} {d} (suc p) h w l = ap (λ (b : Bool). cond b 0 (lastRecord d .region .0)) (ne-eqb (suc p) 0 (λ e. omega (arith, e))) ∙ ap (λ (r : LineRec). r .region .0) (last-is p h w (omega (arith, l)))
 
 front-at : (xs ys : List LineRec) (i : ℕ) → i < length xs → getD (xs ++ ys) i noRec ≡ getD xs i noRec
 front-at [] ys i l = absurd (omega (arith, l))
@@ -222,7 +222,7 @@ front-at (x ∷ xs) ys (suc i) l = front-at xs ys i (omega (arith, l))
 
 module _ {t es bs : List ℕ} {n : ℕ} (h : Told t es bs n) {d : List LineRec} {past : ℕ} (s : Shows (recordsOf (linesOf t) bs) d past) (w : 0 < length d) where
   -- what `refill` asks for
-  pub shows-asks : past ≤ n → ((i : ℕ) → getD es i 0 < 2 ^ 64) → Above past (lastOf d)
+  pub shows-asks : past ≤ n → ((i : ℕ) → getD es i 0 < 2 ^ 64) → Above past (lastRecord d)
   shows-asks l g =
       let c = all-count h in (
         omega (arith, last-start past s w (omega (arith, l, c)), start-low h past l g),
@@ -233,8 +233,8 @@ module _ {t es bs : List ℕ} {n : ℕ} (h : Told t es bs n) {d : List LineRec} 
   unfolding windowAt
   filled i l p q =
       let m : ℕ = min (length d) (n - past) in
-      let x : ℕ = startBelow past (lastOf d) in
-      let y : ℕ = regionBelow past (lastOf d) in
+      let x : ℕ = startBelow past (lastRecord d) in
+      let y : ℕ = regionBelow past (lastRecord d) in
       let c = all-count h in
       let z = by-length es bs m past x y in
       front-at (recordsBy es bs m past x y) (drop m d) i (omega (arith, z, p, q, c))
@@ -244,8 +244,8 @@ module _ {t es bs : List ℕ} {n : ℕ} (h : Told t es bs n) {d : List LineRec} 
   unfolding windowAt
   window-length =
       let m : ℕ = min (length d) (n - past) in
-      let z = by-length es bs m past (startBelow past (lastOf d)) (regionBelow past (lastOf d)) in
-      omega (arith, length-append (recordsBy es bs m past (startBelow past (lastOf d)) (regionBelow past (lastOf d))) (drop m d), length-drop m d, z)
+      let z = by-length es bs m past (startBelow past (lastRecord d)) (regionBelow past (lastRecord d)) in
+      omega (arith, length-append (recordsBy es bs m past (startBelow past (lastRecord d)) (regionBelow past (lastRecord d))) (drop m d), length-drop m d, z)
 
   -- and what it leaves: the window has the k-th line
   pub record Has (k past′ : ℕ) (d′ : List LineRec) : Type 0 where

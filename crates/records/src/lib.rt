@@ -4,7 +4,7 @@ ghost use mathlib.Core.Bool.{cond};
 ghost use Prim.Native.Nat.{_+_, _≤_, _<_, _^_, min};
 ghost use lib.Dec.{ltb};
 ghost use lib.ListN.{length, getD, set, replicate};
-ghost use Rattle.records.specs.Inner.Records.{noRec, lastOf, startBelow, regionBelow, recBy, Above, windowAt};
+ghost use Rattle.records.specs.Inner.Records.{noRec, lastRecord, startBelow, regionBelow, recBy, Above, windowAt};
 
 // A line of a text: where it begins and ends, its region and its block. Its parts stand in this order in memory.
 #[repr(C)]
@@ -105,7 +105,7 @@ fn least(size: usize, rest: usize) -> usize
 // Fills a window with the records of the lines that have `k` above them or more, of `n` in all. Its last record is that of the line above, where
 // there is one.
 pub fn fill(ends: &[usize], blocks: &[usize], n: usize, k: usize, recs: &mut [LineRec])
-    requires { ⌜ ((k ≤ n) × ((n ≤ length (now ends)) × ((n ≤ length (now blocks)) × (0 < length (now recs))))) × (Above k (lastOf (now recs))) ⌝ }
+    requires { ⌜ ((k ≤ n) × ((n ≤ length (now ends)) × ((n ≤ length (now blocks)) × (0 < length (now recs))))) × (Above k (lastRecord (now recs))) ⌝ }
     ensures { λ _. ⌜ now (recs .exit) ≡ windowAt (now (ends .entry)) (now (blocks .entry)) n k (now (recs .entry)) ⌝ }
 {
     let m = least(recs.len(), n - k);
@@ -132,7 +132,7 @@ pub fn refill(
     past: usize,
     recs: &mut [LineRec],
 ) -> usize
-    requires { ⌜ ((k ≤ n) × ((n ≤ length (now ends)) × ((n ≤ length (now blocks)) × (0 < length (now recs))))) × (past ≤ k → Above past (lastOf (now recs))) ⌝ }
+    requires { ⌜ ((k ≤ n) × ((n ≤ length (now ends)) × ((n ≤ length (now blocks)) × (0 < length (now recs))))) × (past ≤ k → Above past (lastRecord (now recs))) ⌝ }
     ensures place { λ r. ⌜ r ≡ cond (ltb k past) past (past + length (now (recs .entry))) ⌝ }
     ensures records { λ _. ⌜ now (recs .exit) ≡ cond (ltb k past) (now (recs .entry)) (windowAt (now (ends .entry)) (now (blocks .entry)) n past (now (recs .entry))) ⌝ }
 {

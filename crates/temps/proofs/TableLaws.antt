@@ -21,7 +21,7 @@ use Rattle.names.specs.declared.Number.{Number}
 use Rattle.names.specs.declared.Number.the-variants as number
 use Rattle.names.proofs.Texts.{after-number, after-read}
 use Rattle.names.proofs.Decimal.{decimal-strip}
-use Rattle.parse.specs.Parse.{letWord, bodyOf}
+use Rattle.parse.specs.Parse.{letWord, bodyOf, isLet}
 use Rattle.place.specs.Region.{varWord, constWord}
 use Rattle.words.specs.Runs.{flush, runsGo, runs, countBy}
 use Rattle.words.specs.Inner.Runs.{wordsOf}
@@ -30,7 +30,7 @@ use Rattle.reading.specs.Assign.{isAssign, leftOf}
 use Rattle.slots.specs.Inner.Slots.{slotOf, entryOf, withEntry}
 use Rattle.slots.proofs.SlotLaws.{Placed, slot-kept, entry-length, entry-same, entry-other}
 use Rattle.temps.specs.Temps.{anyPiece, declares, tempReads, declaredIn, tempRead}
-use Rattle.temps.specs.Inner.Table.{keyBy, keyOf, isLet, flagAt, flagPieces, flagDecl, flagDecls, skipAfter, flagRun, flagRuns, flagReads, flagLines, anyFlag, readsIf, flagBy, Tells, TellsOf}
+use Rattle.temps.specs.Inner.Table.{keyBy, keyOf, flagAt, flagPieces, flagDecl, flagDecls, skipAfter, flagRun, flagRuns, flagReads, flagLines, anyFlag, readsIf, flagBy, Tells, TellsOf}
 use Rattle.temps.specs.declared.table.Flag.{Flag}
 use Rattle.temps.specs.declared.table.Flag.the-variants as flag
 use Rattle.temps.proofs.TempLaws.{reads-bind, reads-words}

@@ -2,11 +2,12 @@
 use crate::is_binding;
 ghost use mathlib.Core.Path.{_≡_};
 ghost use lib.ListN.{length, replicate};
+ghost use Rattle.parse.specs.Parse.{isLet};
 ghost use Rattle.lines.specs.Lf.{partsOf, linesOf};
 ghost use Rattle.words.specs.Runs.{runs};
 ghost use Rattle.names.specs.declared.Number.the-variants.{Of};
 ghost use Rattle.slots.specs.Inner.Slots.{withEntry};
-ghost use Rattle.temps.specs.Inner.Table.{keyBy, keyOf, isLet, flagAt, flagPieces, flagDecl, flagDecls, skipAfter, flagRun, flagRuns, flagReads, flagLines, anyFlag, readsIf, flagBy};
+ghost use Rattle.temps.specs.Inner.Table.{keyBy, keyOf, flagAt, flagPieces, flagDecl, flagDecls, skipAfter, flagRun, flagRuns, flagReads, flagLines, anyFlag, readsIf, flagBy};
 
 // What a table says of a key: whether its flag is set, or that it has no place there.
 pub enum Flag {

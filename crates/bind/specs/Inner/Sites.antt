@@ -10,7 +10,7 @@ use Rattle.records.specs.declared.LineRec.{LineRec}
 use Rattle.records.specs.Inner.Records.{Told}
 use Rattle.reading.specs.Reading.{plain}
 use Rattle.bind.specs.declared.Site.{Site}
-use Rattle.bind.specs.Bind.{spots, bindDeclarators}
+use Rattle.bind.specs.Bind.{blockLines, bindDeclarators}
 use Rattle.bind.specs.Inner.Steps.{Rows}
 
 -- where the first of m lines begins that opens a region, or n where there is none: the first has k above it and begins at p, and es has where
@@ -28,9 +28,9 @@ unfoldable pub siteOf : ℕ → LineRec → ℕ → ℕ → ℕ → Site
 siteOf n r t e k = record { top = t; from = r .start; to = r .end; next = min (r .end + 1) n; end = e; row = k; block = r .block }
 
 -- the tables are those of the n lines of t, no line is marked in m, and o has room for the result
-pub record Walked (t es : List ℕ) (n : ℕ) (bs ss m o : List ℕ) : Type 0 where
+pub record WalkedSites (t es : List ℕ) (n : ℕ) (bs ss m o : List ℕ) : Type 0 where
   pub told : Told t es bs n
-  pub rows : Rows (spots plain (linesOf t)) bs ss
+  pub rows : Rows (blockLines plain (linesOf t)) bs ss
   pub fits : length (linesOf t) ≤ length m
   pub unmarked : take (length (linesOf t)) m ≡ replicate (length (linesOf t)) 0
   pub room : length (unlines (bindDeclarators plain (linesOf t))) ≤ length o

@@ -8,7 +8,7 @@ use lib.Dec.{eqb}
 use Rattle.lines.specs.Ascii.{ascii}
 use Rattle.lines.specs.Lf.{part, linesOf, partsOf}
 use Rattle.lines.specs.Acts.{Act, keep, become, into, gone}
-use Rattle.origins.specs.Inner.Codes.{far}
+use Rattle.origins.specs.Inner.Codes.{farMove}
 use Rattle.text.specs.Trim.{fromOf, trimOf}
 use Rattle.names.specs.Names.{regOf}
 use Rattle.names.specs.declared.RegName.{RegName}
@@ -18,7 +18,7 @@ use Rattle.decls.specs.Inner.Print.{kept, declText}
 use Rattle.reading.specs.Reading.{Reading}
 use Rattle.reading.specs.Uses.{lineStores, lineUses, usedIn}
 use Rattle.bind.specs.declared.Site.{Site}
-use Rattle.bind.specs.Bind.{Spot, spots, untilHead, declCount, storeCount, markAll, marked, piecesOf, aboveIn, promoted, bindAct}
+use Rattle.bind.specs.Bind.{BlockLine, blockLines, untilHead, declCount, storeCount, markAll, marked, piecesOf, aboveIn, promoted, bindAct}
 
 -- ---- a line and its region
 
@@ -124,7 +124,7 @@ endNote (into n) m = 2
 endNote gone m = 2
 
 -- of the lines in a walk
-unfoldable pub notesGo : List Spot → List (List ℕ) → List Bool → List ℕ
+unfoldable pub notesGo : List BlockLine → List (List ℕ) → List Bool → List ℕ
 unfolding bindAct markAll piecesOf untilHead
 notesGo [] above ms = []
 notesGo (d ∷ ss) above ms =
@@ -133,20 +133,20 @@ notesGo (d ∷ ss) above ms =
 
 -- of all lines
 unfoldable pub bindNotes : Reading → List (List ℕ) → List ℕ
-unfolding notesGo spots
-bindNotes R ls = notesGo (spots R ls) [] []
+unfolding notesGo blockLines
+bindNotes R ls = notesGo (blockLines R ls) [] []
 
 -- the moves that it tells: a line with 2 is gone
 unfoldable pub noteMoves : List ℕ → List ℕ
 noteMoves [] = []
-noteMoves (n ∷ ns) = cond (eqb n 2) far 0 ∷ noteMoves ns
+noteMoves (n ∷ ns) = cond (eqb n 2) farMove 0 ∷ noteMoves ns
 
 -- ---- the tables
 
 -- the entries of the two tables are those of the lines
-pub data Rows : List Spot → List ℕ → List ℕ → Type 0 where
+pub data Rows : List BlockLine → List ℕ → List ℕ → Type 0 where
   none : {bs ss : List ℕ} → Rows [] bs ss
-  row : {d : Spot} {ds : List Spot} {bs ss : List ℕ} → Rows ds bs ss → Rows (d ∷ ds) (d .block ∷ bs) (cond (d .starts) 1 0 ∷ ss)
+  row : {d : BlockLine} {ds : List BlockLine} {bs ss : List ℕ} → Rows ds bs ss → Rows (d ∷ ds) (d .block ∷ bs) (cond (d .starts) 1 0 ∷ ss)
 
 -- the tables reach as far as the region of a line
 abbrev pub Reach : List ℕ → Site → List ℕ → List ℕ → Type 0

@@ -1,7 +1,7 @@
 -- `origins::code_at` meets its contract. Assumes nothing.
 use mathlib.Core.Path.{sym}
 use lib.ListN.{List·getD-eq-default}
-use Rattle.origins.specs.Inner.Codes.{far}
+use Rattle.origins.specs.Inner.Codes.{farMove}
 use Rattle.origins.proofs.TableLaws.{in-any}
 use borrow.Author.Needs.{needs}
 use Rattle.origins.proofs.code_at.Statement.{statement}
@@ -14,10 +14,10 @@ shared-slice-read-result : tie.Need-shared-slice-read-result
 shared-slice-read-result c = search needs
 
 returns : tie.Need-returns
-returns c = in-any (c .before .before .args .codes .now) (c .before .before .args .i) 0 far (c .before .if1 .taken)
+returns c = in-any (c .before .before .args .codes .now) (c .before .before .args .i) 0 farMove (c .before .if1 .taken)
 
 returns-2 : tie.Need-returns-2
-returns-2 c = sym (List·getD-eq-default (c .before .args .codes .now) far (c .if1 .left))
+returns-2 c = sym (List·getD-eq-default (c .before .args .codes .now) farMove (c .if1 .left))
 
 pub code-at-spec : {M : Type 1} → statement M
 code-at-spec = tie.close (tie.spec mul-result shared-slice-read-result returns returns-2)

@@ -3,7 +3,7 @@ use borrow.Author.Needs.{needs}
 use Rattle.origins.proofs.Walks.{both-in, WalkInv, walk-start, q-le, q-from, x-from, x-le, walk-room, walk-on, walk-end}
 use Rattle.lines.proofs.OutLaws.{writing-length}
 use Rattle.lines.proofs.LfLaws.{find-le}
-use Rattle.origins.specs.Form.{shapeOf}
+use Rattle.origins.specs.Form.{formShape}
 use lib.ListN.{length}
 use native.Mathlib.Omega.{arith}
 use Prim.Native.Nat.{_-_}
@@ -11,7 +11,7 @@ use Rattle.origins.proofs.put_records.Statement.{statement}
 use Rattle.origins.proofs.put_records.Tie as tie
 
 abbrev Inv-loop : tie.InvT-loop
-Inv-loop f text lf table orig₀ i₀ p₀ k₀ o₀ orig i p k o = WalkInv (shapeOf f) text lf table orig₀ orig i p k o
+Inv-loop f text lf table orig₀ i₀ p₀ k₀ o₀ orig i p k o = WalkInv (formShape f) text lf table orig₀ orig i p k o
 
 abbrev μ-loop : tie.MeasureT-loop
 μ-loop f text lf table orig₀ i₀ p₀ k₀ o₀ orig i p k o = length text - i

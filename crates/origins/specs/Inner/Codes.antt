@@ -9,14 +9,14 @@ use Rattle.origins.specs.Fates.{Fate, at, held, lost}
 
 -- ---- moves: how far down a line goes, 0 where it stands; past the last line where it is gone
 
-abbrev pub far : ℕ
-far = 18446744073709551615
+abbrev pub farMove : ℕ
+farMove = 18446744073709551615
 
 unfoldable pub moveOf : Act → ℕ
 moveOf keep = 0
 moveOf (become x) = 0
 moveOf (into n) = n
-moveOf gone = far
+moveOf gone = farMove
 
 unfoldable pub movesOf : List Act → List ℕ
 unfolding moveOf
@@ -25,7 +25,7 @@ movesOf (a ∷ more) = moveOf a ∷ movesOf more
 
 -- of a line that was written from o to p: it is gone where nothing was
 abbrev pub noteOf : ℕ → ℕ → ℕ
-noteOf o p = cond (eqb o p) far 0
+noteOf o p = cond (eqb o p) farMove 0
 
 -- ---- codes: n, it stands as line n; `half` and n, line n holds it; far, it is lost
 
@@ -35,7 +35,7 @@ half = 9223372036854775808
 unfoldable pub codeOf : Fate → ℕ
 codeOf (at n) = n
 codeOf (held n) = half + n
-codeOf lost = far
+codeOf lost = farMove
 
 unfoldable pub codesOf : List Fate → List ℕ
 unfolding codeOf
@@ -50,12 +50,12 @@ takenCode c = cond (ltb c half) (half + c) c
 unfoldable pub landGo : List ℕ → ℕ → List ℕ
 unfolding takenCode
 landGo [] o = []
-landGo (m ∷ ms) o = cond (eqb m 0) (o ∷ landGo ms (suc o)) (takenCode (getD (far ∷ landGo ms o) m far) ∷ landGo ms o)
+landGo (m ∷ ms) o = cond (eqb m 0) (o ∷ landGo ms (suc o)) (takenCode (getD (farMove ∷ landGo ms o) m farMove) ∷ landGo ms o)
 
 -- where a line of the code c is when the lines there have the codes gs
 unfoldable pub onCode : List ℕ → ℕ → ℕ
 unfolding takenCode
-onCode gs c = cond (ltb c half) (getD gs c far) (takenCode (getD gs (c - half) far))
+onCode gs c = cond (ltb c half) (getD gs c farMove) (takenCode (getD gs (c - half) farMove))
 
 unfoldable pub through : List ℕ → List ℕ → List ℕ
 unfolding onCode

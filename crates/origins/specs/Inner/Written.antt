@@ -9,11 +9,11 @@ use Rattle.lines.specs.Ascii.{ascii}
 use Rattle.lines.specs.Lf.{same, prefixed}
 use Rattle.origins.specs.declared.Went.{Went}
 use Rattle.origins.specs.declared.Went.the-variants.{Equal, Changed, Inside, Away}
-use Rattle.origins.specs.Inner.Codes.{far, half}
+use Rattle.origins.specs.Inner.Codes.{farMove, half}
 
 -- of the line l by its code c, where o is the next line that came out
 unfoldable pub saidOne : List ℕ → List ℕ → ℕ → Went
-saidOne l o c = cond (ltb c half) (cond (same l o) (Equal c) (Changed c)) (cond (eqb c far) Away (Inside (c - half)))
+saidOne l o c = cond (ltb c half) (cond (same l o) (Equal c) (Changed c)) (cond (eqb c farMove) Away (Inside (c - half)))
 
 -- the lines that came out below a line of the code c
 unfoldable pub leftOver : ℕ → List (List ℕ) → List (List ℕ)

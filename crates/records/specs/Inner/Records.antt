@@ -55,14 +55,14 @@ recordsBy es bs zero k i c = []
 recordsBy es bs (suc m) k i c = recBy i c (getD es k 0) (getD bs k 0) ∷ recordsBy es bs m (suc k) (getD es k 0 / 2 + 1) (c + getD es k 0 % 2)
 
 -- the last record of a window
-abbrev pub lastOf : List LineRec → LineRec
-lastOf d = getD d (length d - 1) noRec
+abbrev pub lastRecord : List LineRec → LineRec
+lastRecord d = getD d (length d - 1) noRec
 
 -- a window d, whose last record is that of the line above, filled with the records of the lines that have k above them or more, of n in all, as
 -- far as it reaches
 unfoldable pub windowAt : List ℕ → List ℕ → ℕ → ℕ → List LineRec → List LineRec
 unfolding recordsBy
-windowAt es bs n k d = recordsBy es bs (min (length d) (n - k)) k (startBelow k (lastOf d)) (regionBelow k (lastOf d)) ++ drop (min (length d) (n - k)) d
+windowAt es bs n k d = recordsBy es bs (min (length d) (n - k)) k (startBelow k (lastRecord d)) (regionBelow k (lastRecord d)) ++ drop (min (length d) (n - k)) d
 
 -- the table es is that of the n lines of t, and bs has an entry for each
 pub record Told (t es bs : List ℕ) (n : ℕ) : Type 0 where

@@ -13,7 +13,7 @@ use Rattle.names.specs.Names.{tempWord, readNumber, isTemp}
 use Rattle.names.specs.Inner.Names.{zeros}
 use Rattle.names.specs.declared.Number.{Number}
 use Rattle.names.specs.declared.Number.the-variants as number
-use Rattle.parse.specs.Parse.{letWord, bodyOf}
+use Rattle.parse.specs.Parse.{letWord, bodyOf, isLet}
 use Rattle.place.specs.Region.{varWord, constWord}
 use Rattle.words.specs.Runs.{runs}
 use Rattle.reading.specs.Assign.{isAssign, leftOf}
@@ -44,10 +44,6 @@ unfoldable pub flagPieces : List ℕ → List (List ℕ) → List ℕ → List �
 unfolding keyOf
 flagPieces own [] d = d
 flagPieces own (p ∷ ps) d = flagPieces own ps (flagAt own (keyOf (trimOf p)) d)
-
--- a trimmed line begins with `let ` and ends with `;`
-unfoldable pub isLet : List ℕ → Bool
-isLet t = ltb 4 (length t) && (prefixed letWord t && endsIn (code ";") t)
 
 -- after a trimmed line: `let `, names split at commas, `;`
 unfoldable pub flagDecl : List ℕ → List ℕ → List ℕ → List ℕ
