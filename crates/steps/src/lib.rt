@@ -280,7 +280,26 @@ fn other_step(
     ensures origins { λ _. ⌜ now (table .exit) ≡ through (now (table .entry)) (codesOf (stepFates (readingOf (m .mode .0)) k (linesOf (now (src .entry))))) ⌝ }
 {
     if k == 2 {
-        return once_step(m, src, own, c, d, f, g, h, u, v, w, x, p, q, r, t, dst, table);
+        return once_step(
+            m,
+            src,
+            own,
+            c,
+            d,
+            f,
+            g,
+            h,
+            u,
+            v,
+            w,
+            x,
+            p,
+            q,
+            r,
+            t,
+            dst,
+            table,
+        );
     }
     if k == 4 {
         return calls_step(m, src, own, c, d, e, f, u, v, w, x, p, q, r, dst, table);
@@ -326,5 +345,26 @@ pub fn step(
     if k == 6 {
         return bind_step(m, src, own, f, g, u, p, q, r, t, dst, table);
     }
-    other_step(k, m, src, own, dst, c, d, e, f, g, h, u, v, w, x, p, q, r, t, table)
+    other_step(
+        k,
+        m,
+        src,
+        own,
+        dst,
+        c,
+        d,
+        e,
+        f,
+        g,
+        h,
+        u,
+        v,
+        w,
+        x,
+        p,
+        q,
+        r,
+        t,
+        table,
+    )
 }
