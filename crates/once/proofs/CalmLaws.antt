@@ -1,18 +1,16 @@
--- Laws of the bytes after the last `(`, in which no call stands. Assumes nothing.
-use Prim.Native.Nat.{ℕ, suc, _+_, _-_, _≤_, _<_}
+-- Laws of bytes at the end that hold no `(`, in which no call stands. Assumes nothing.
+use Prim.Native.Nat.{ℕ, zero, suc, _+_, _-_, _≤_}
 use mathlib.Core.Path.{_≡_, refl, sym, ap, subst, _∙_}
-use mathlib.Core.Bool.{Bool, true, false, cond, _&&_}
-use mathlib.Core.List.{List, [], _∷_, _++_}
+use mathlib.Core.Bool.{Bool, true, false, cond}
+use mathlib.Core.List.{List, [], _∷_}
 use native.Mathlib.Omega.{arith}
-use native.Mathlib.Numerals.{add-one}
-use borrow.Author.Tests.{ltb-true, ltb-false, ne-eqb}
-use lib.Dec.{eqb, ltb}
-use lib.ListN.{length, drop, getD, length-drop, drop-of-length-le}
-use lib.Seq.{drop-cons}
+use lib.Dec.{eqb}
+use lib.ListN.{length, take, drop, length-drop, drop-of-length-le}
+use lib.Seq.{drop-drop}
 use Rattle.lines.specs.Lf.{all, part, upTo, cutOn, linesOf, holds}
 use Rattle.lines.specs.Inner.Lf.{lacks}
 use Rattle.lines.proofs.Tests.{no, and-left, and-right, and-both}
-use Rattle.lines.proofs.LfLaws.{rest-of, lacks-cons, lacks-with}
+use Rattle.lines.proofs.LfLaws.{rest-of, rest-lacks, lacks-cons, lacks-with}
 use Rattle.place.specs.Region.{isHeader}
 use Rattle.once.specs.Inner.Tables.{anyCall}
 use Rattle.once.specs.Inner.Noted.{CalmIn, Calm}
@@ -62,35 +60,24 @@ calm-rest s c j h = subst (λ (r : List ℕ). CalmIn r c) (sym (rest-of s j)) (h
 
 -- ---- the loop, from the end
 
--- no rest from i on holds one
-abbrev pub CalmFrom : List ℕ → ℕ → Type 0
-CalmFrom s i = (j : ℕ) → i ≤ j → lacks 40 (drop j s) ≡ true
-
-pub calm-start : (s : List ℕ) → CalmFrom s (length s)
+pub calm-start : (s : List ℕ) → lacks 40 (drop (length s) s) ≡ true
 unfolding lacks
-calm-start s j h = rw (drop-of-length-le s h) refl
+calm-start s = let h : length s ≤ length s = omega arith in rw (drop-of-length-le s h) refl
 
-pub calm-less : (s : List ℕ) (i : ℕ) → 0 < i → i ≤ length s → (getD s (i - 1) 0 ≡ 40 → ⊥) → CalmFrom s i → CalmFrom s (i - 1)
-calm-less s i z p n h j q = go (ltb (i - 1) j) refl
-  where
-    m : suc (i - 1) ≡ i
-    m = omega arith
+-- a list lacks what its front and its rest lack
+both-lack : (n : ℕ) (xs : List ℕ) → lacks 40 (take n xs) ≡ true → lacks 40 (drop n xs) ≡ true → lacks 40 xs ≡ true
+both-lack zero xs p q = q
+both-lack (suc n) [] p q = q
+both-lack (suc n) (x ∷ xs) p q = let e = lacks-cons 40 x (take n xs) p in lacks-with 40 x xs false (e .0) ∙ both-lack n xs (e .1) q
 
-    at : lacks 40 (drop (i - 1) s) ≡ true
-    at =
-        let k : i - 1 < length s = omega arith in
-        ap (lacks 40) (drop-cons s (i - 1) 0 k) ∙ lacks-with 40 (getD s (i - 1) 0) (drop (suc (i - 1)) s) false (ne-eqb (getD s (i - 1) 0) 40 n) ∙ h (suc (i - 1)) (omega arith)
+-- a block of n bytes further up
+pub calm-block : (s : List ℕ) (n i : ℕ) → n ≤ i → lacks 40 (part (i - n) i s) ≡ true → lacks 40 (drop i s) ≡ true → lacks 40 (drop (i - n) s) ≡ true
+calm-block s n i z p h =
+    let m : i - n + (i - (i - n)) ≡ i = omega arith in
+    both-lack (i - (i - n)) (drop (i - n) s) p (ap (lacks 40) (drop-drop (i - (i - n)) (i - n) s) ∙ ap (λ (k : ℕ). lacks 40 (drop k s)) m ∙ h)
 
-    go : (b : Bool) → ltb (i - 1) j ≡ b → lacks 40 (drop j s) ≡ true
-    go true e = let k = ltb-true (i - 1) j e in h j (omega arith)
-    go false e = let k = ltb-false (i - 1) j e in let y : j ≡ i - 1 = omega arith in ap (λ (d : ℕ). lacks 40 (drop d s)) y ∙ at
-
-pub calm-found : (s : List ℕ) (i : ℕ) → i ≤ length s → CalmFrom s i → Calm s (length s - i)
-calm-found s i p h j q = go (ltb j i) refl
-  where
-    go : (b : Bool) → ltb j i ≡ b → lacks 40 (drop j s) ≡ true
-    go true e = let k = ltb-true j i e in let y = length-drop j s in absurd (omega arith)
-    go false e = let k = ltb-false j i e in h j (omega arith)
-
-pub calm-all : (s : List ℕ) (i : ℕ) → i ≤ 0 → CalmFrom s i → Calm s (length s)
-calm-all s i p h j q = h j (omega arith)
+pub calm-found : (s : List ℕ) (i : ℕ) → i ≤ length s → lacks 40 (drop i s) ≡ true → Calm s (length s - i)
+calm-found s i p h j q =
+    let y = length-drop j s in
+    let m : i + (j - i) ≡ j = omega arith in
+    sym (ap (lacks 40) (drop-drop (j - i) i s) ∙ ap (λ (k : ℕ). lacks 40 (drop k s)) m) ∙ rest-lacks 40 (j - i) (drop i s) h

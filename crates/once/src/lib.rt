@@ -122,18 +122,21 @@ fn any_call(text: &[u8], x: &[u8]) -> bool
     false
 }
 
-// How many bytes stand after the last `(`.
+// Bytes that are looked at together.
+const BLOCK: usize = 32;
+
+// How many bytes at the end hold no `(`, by whole blocks.
 fn calm_len(text: &[u8]) -> usize
     ensures { λ r. ⌜ Calm (now (text .entry)) r ⌝ }
 {
     let mut i = text.len();
-    while 0 < i {
-        if text[i - 1] == b'(' {
+    while BLOCK <= i {
+        if !lines::lacks(&text[i - BLOCK..i], b'(') {
             return text.len() - i;
         }
-        i -= 1;
+        i -= BLOCK;
     }
-    text.len()
+    text.len() - i
 }
 
 // Whether a line changes an object: it stores the register that the object is, or mentions the name that it is.

@@ -1,10 +1,10 @@
 -- Lines that are told by their first bytes: no declaration, other, and plainly a store. Assumes nothing.
 use Prim.Native.Nat.{ℕ, zero, suc, _+_, _-_, _≤_, _<_}
 use mathlib.Core.Path.{_≡_, refl, sym, ap, _∙_}
-use mathlib.Core.Bool.{Bool, true, false, cond, not, _&&_, _||_}
+use mathlib.Core.Bool.{Bool, true, false, cond, not, _&&_}
 use mathlib.Core.List.{List, [], _∷_}
 use native.Mathlib.Omega.{arith}
-use borrow.Author.Tests.{eq-eqb, ne-eqb, eqb-true, le-leb, leb-true, ltb-false}
+use borrow.Author.Tests.{eq-eqb, ne-eqb, eqb-true, le-leb, leb-true}
 use lib.Dec.{eqb, leb, ltb}
 use lib.ListN.{length, take, drop, getD, length-drop}
 use lib.Seq.{drop-cons, take-length, take-take, getD-take, getD-drop, length-take-le}
@@ -13,7 +13,7 @@ use Rattle.lines.proofs.LfLaws.{rest-of}
 use Rattle.lines.proofs.Tests.{no, and-false, and-left, and-right}
 use Rattle.text.specs.Trim.{lead, fromOf, endWhite, toOf, toEnd, trimStart, trimOf}
 use Rattle.text.proofs.Trims.{fromOf-le, toOf-le, front-space, front-told, back-space, back-told}
-use Rattle.names.specs.Names.{isDigit, numbered, readNumber, regOf}
+use Rattle.names.specs.Names.{isDigit, isReg, numbered, readNumber, regOf}
 use Rattle.names.specs.declared.Register.{Register}
 use Rattle.names.specs.declared.RegName.{RegName}
 use Rattle.names.specs.declared.RegName.the-variants as name
@@ -23,7 +23,7 @@ use Rattle.parse.specs.declared.Line.the-variants as line
 use Rattle.parse.specs.Parse.{isDecl, storeBy, splitStore, storeIn, parseOf}
 use Rattle.parse.specs.Inner.Parse.{digitsLen, plainByte, plainValue}
 use Rattle.parse.proofs.ParseLaws.{store-reg}
-use Rattle.parse.proofs.Plain.{inside, name-at, plain-is, plain-above, plain-below, starts-plain, ends-plain, digits-all, name-last, digits-past, up-take}
+use Rattle.parse.proofs.Plain.{inside, name-at, plain-above, plain-below, starts-plain, ends-plain, digits-all, name-last, digits-past, up-take}
 
 -- ---- the first byte that is no white space
 
@@ -78,13 +78,15 @@ module _ (c : ℕ) (r : List ℕ) (none : (k m x : ℕ) → regOf (trimOf (take 
 
 -- ---- a line that begins with another byte than `l` and `r`
 
+-- what is trimmed begins with the same byte
+pub trim-other : (c b : ℕ) → plainByte c ≡ true → (0 ≡ b → ⊥) → (c ≡ b → ⊥) → (y : List ℕ) → getD y 0 0 ≡ c → getD (trimOf y) 0 0 ≡ b → ⊥
+unfolding trimOf
+trim-other c b t z n y e =
+    first-taken b z (toOf (trimStart y)) (trimStart y) (λ h. n (sym e ∙ ap (λ (k : ℕ). getD (drop k y) 0 0) (starts-plain y (ap (λ (x : ℕ). plainByte x) e ∙ t)) ∙ h))
+
 module _ (c : ℕ) (t : plainByte c ≡ true) (n : c ≡ 114 → ⊥) where
   trim-none : (y : List ℕ) → getD y 0 0 ≡ c → regOf (trimOf y) ≡ name.None
-  unfolding trimOf
-  trim-none y e =
-      reg-first (trimOf y)
-      (first-taken 114 (λ z. absurd (omega arith)) (toOf (trimStart y)) (trimStart y)
-      (λ z. n (sym e ∙ ap (λ (k : ℕ). getD (drop k y) 0 0) (starts-plain y (ap (λ (b : ℕ). plainByte b) e ∙ t)) ∙ z)))
+  trim-none y e = reg-first (trimOf y) (trim-other c 114 t (λ z. absurd (omega arith)) n y e)
 
   taken-none : (r : List ℕ) (k m x : ℕ) → regOf (trimOf (take k (take m (take x (c ∷ r))))) ≡ name.None
   taken-none r zero m x = empty-none
@@ -137,15 +139,6 @@ pub parse-bare : (l : List ℕ) (a e : ℕ) → a ≡ fromOf l → getD l a 0 �
 parse-bare l a e p r q h =
     let z : digitsLen (drop (a + 1) l) ≡ 0 = omega arith in
     parse-none 114 (drop (a + 1) l) (bare-taken (drop (a + 1) l) (digits-none (drop (a + 1) l) z)) l a p (name-at l a r) (decl-other l a p (λ x. absurd (omega arith)))
-
--- the test of its byte
-pub plain-test : (c : ℕ) → ltb c 33 || ltb 127 c ≡ false → plainByte c ≡ true
-plain-test c h = go (ltb c 33) refl (ltb 127 c) refl h
-  where
-    go : (a : Bool) → ltb c 33 ≡ a → (b : Bool) → ltb 127 c ≡ b → a || b ≡ false → plainByte c ≡ true
-    go true p b q e = no (sym e)
-    go false p true q e = no (sym e)
-    go false p false q e = let x = ltb-false c 33 p in let y = ltb-false 127 c q in plain-is c (omega arith) (omega arith)
 
 -- ---- a declaration
 
@@ -315,3 +308,18 @@ module _ (l : List ℕ) (a e : ℕ) (p : a ≡ fromOf l) (r : getD l a 0 ≡ 114
 pub plain-store : (l : List ℕ) (a e : ℕ) → a ≡ fromOf l → getD l a 0 ≡ 114 → e ≡ a + 1 + digitsLen (drop (a + 1) l) → plainValue e l ≡ true →
     (g : Register) → name.Reg g ≡ regOf (part a e l) → line.Store (record { reg = g; from = e + 3; to = length l - 1 }) ≡ parseOf l
 plain-store l a e p r q v g y = store-is l a e p r q (value-at e l v) g y
+
+-- what is told of a line where its register is read only if it is plainly a store
+module _ (l : List ℕ) (a e : ℕ) (g : Register) (y : name.Reg g ≡ cond (plainValue e l) (regOf (part a e l)) name.None) where
+  told-both : (plainValue e l ≡ true) × (name.Reg g ≡ regOf (part a e l))
+  told-both = go (plainValue e l) refl
+    where
+      go : (b : Bool) → plainValue e l ≡ b → (plainValue e l ≡ true) × (name.Reg g ≡ regOf (part a e l))
+      go true p = (p, y ∙ ap (λ (b : Bool). cond b (regOf (part a e l)) name.None) p)
+      go false p = no (sym (ap isReg (y ∙ ap (λ (b : Bool). cond b (regOf (part a e l)) name.None) p)))
+
+  pub told-room : e + 5 ≤ length l
+  told-room = value-room e l (told-both .0)
+
+  pub told-store : a ≡ fromOf l → getD l a 0 ≡ 114 → e ≡ a + 1 + digitsLen (drop (a + 1) l) → line.Store (record { reg = g; from = e + 3; to = length l - 1 }) ≡ parseOf l
+  told-store p r q = plain-store l a e p r q (told-both .0) g (told-both .1)

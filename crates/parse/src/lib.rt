@@ -1,12 +1,13 @@
 // Reading a line.
 ghost use mathlib.Core.Path.{_≡_};
-ghost use Prim.Native.Nat.{_<_, _+_, _^_};
+ghost use Prim.Native.Nat.{_<_, _≤_, _+_, _^_};
 ghost use mathlib.Core.Bool.{true, cond};
 ghost use lib.Dec.{eqb};
 ghost use lib.ListN.{length, drop, getD};
 ghost use Rattle.lines.specs.Lf.{part, upTo, partsOf};
 ghost use Rattle.text.specs.Trim.{fromOf, trimOf};
 ghost use Rattle.names.specs.Names.{regOf, isReg};
+ghost use Rattle.names.specs.declared.RegName.the-variants.{None};
 ghost use Rattle.parse.specs.Parse.{allRegs, isDecl, storeIn, splitStore, parseOf, textOf};
 ghost use Rattle.parse.specs.Inner.Parse.{digitsLen, shortReg, plainValue};
 
@@ -220,26 +221,15 @@ fn plain_value(line: &[u8], e: usize) -> bool
                 & (((32 < x) & (x < 128)) & (((32 < y) & (y < 128)) & (line[n - 1] == b';')))))
 }
 
-// What a line is whose first byte that is no white space is an `r`, at the place `a`: most are plainly stores, and the others have no digit behind it.
-fn parse_store(line: &[u8], a: usize) -> Line
-    requires { ⌜ (a ≡ fromOf (now line)) × (getD (now line) a 0 ≡ 114) ⌝ }
-    ensures { λ r. ⌜ r ≡ parseOf (now (line .entry)) ⌝ }
+// The register whose name stands from a to e, where the line is plainly a store of it.
+fn plain_store(line: &[u8], a: usize, e: usize) -> names::RegName
+    requires { ⌜ a ≤ e ⌝ }
+    ensures { λ r. ⌜ r ≡ cond (plainValue e (now (line .entry))) (regOf (part a e (now (line .entry)))) None ⌝ }
 {
-    let e = digits_end(line, a + 1);
-    if e - a < 2 {
-        return Line::Other;
-    }
     if !plain_value(line, e) {
-        return parse_any(line);
+        return names::RegName::None;
     }
-    match names::reg_name(&line[a..e]) {
-        names::RegName::Reg(q) => Line::Store(Store {
-            reg: q,
-            from: e + 3,
-            to: line.len() - 1,
-        }),
-        names::RegName::None => parse_any(line),
-    }
+    names::reg_name(&line[a..e])
 }
 
 // Whether a line is a declaration; `a` is the place of its first byte that is no white space.
@@ -262,25 +252,42 @@ pub fn declares(line: &[u8]) -> bool
     declares_at(line, a)
 }
 
-// What a line is: most are told by their first byte that is no white space.
+// What a line is: most are told by their first byte that is no white space. The answer for the others is built anew from its parts: handed on as a whole,
+// it would be copied once more for every line.
 pub fn parse(line: &[u8]) -> Line
     ensures { λ r. ⌜ r ≡ parseOf (now (line .entry)) ⌝ }
 {
     let a = text::trim_from(line);
     let c = lines::byte_at(line, a);
     if c == b'r' {
-        return parse_store(line, a);
-    }
-    if (c < 33) | (127 < c) {
-        return parse_any(line);
-    }
-    if c != b'l' {
+        let e = digits_end(line, a + 1);
+        if e - a < 2 {
+            return Line::Other;
+        }
+        match plain_store(line, a, e) {
+            names::RegName::Reg(q) => {
+                return Line::Store(Store {
+                    reg: q,
+                    from: e + 3,
+                    to: line.len() - 1,
+                });
+            }
+            names::RegName::None => {}
+        }
+    } else if (32 < c) & (c < 128) {
+        if c != b'l' {
+            return Line::Other;
+        }
+        if declares_at(line, a) {
+            return Line::Decl;
+        }
         return Line::Other;
     }
-    if declares_at(line, a) {
-        return Line::Decl;
+    match parse_any(line) {
+        Line::Decl => Line::Decl,
+        Line::Store(s) => Line::Store(s),
+        Line::Other => Line::Other,
     }
-    Line::Other
 }
 
 // The value of a store, as a part of its line.

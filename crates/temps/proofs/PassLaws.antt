@@ -1,27 +1,54 @@
 -- Laws of what one line of `prune_dead_temps` asks and becomes, and of its loop. Assumes nothing.
-use Prim.Native.Nat.{ℕ, suc, _+_, _-_, _≤_, _<_, min}
+use Prim.Native.Nat.{ℕ, zero, suc, _+_, _-_, _≤_, _<_, min}
 use mathlib.Core.Path.{_≡_, refl, sym, ap, _∙_}
 use mathlib.Core.Bool.{Bool, true, false, cond, not, _&&_}
 use mathlib.Core.List.{List, [], _∷_, _++_}
 use native.Mathlib.Omega.{arith}
-use lib.ListN.{length, drop, length-take, length-drop, length-append}
-use Rattle.lines.specs.Lf.{part, upTo, linesOf, unlines}
+use borrow.Author.Tests.{ne-eqb, eqb-false, not-true}
+use lib.Dec.{eqb}
+use lib.ListN.{length, take, drop, getD, length-append}
+use Rattle.lines.specs.Lf.{part, upTo, prefixed, linesOf, unlines}
 use Rattle.lines.specs.Inner.Out.{putAt, Wrote}
 use Rattle.lines.specs.Acts.{keep, gone, act, apply}
-use Rattle.lines.proofs.Tests.{and-false, and-true}
+use Rattle.lines.proofs.Tests.{and-false, and-true, and-left, and-right}
 use Rattle.lines.proofs.LfLaws.{lines-at, lines-end}
 use Rattle.lines.proofs.ActLaws.{unlines-append}
 use Rattle.lines.proofs.OutLaws.{Writing, writing-start, writing-as, writing-room, writing-put, writing-end}
-use Rattle.text.specs.Trim.{fromOf, toEnd, trimOf}
-use Rattle.text.proofs.Trims.{trim-part}
+use Rattle.text.specs.Trim.{lead, fromOf, endWhite, toOf, trimOf}
 use Rattle.names.specs.Names.{isTemp}
+use Rattle.parse.specs.Inner.Parse.{plainByte}
+use Rattle.parse.proofs.PlainLine.{trim-other}
 use Rattle.expr.specs.Pure.{cutIn}
 use Rattle.expr.proofs.QuoteLaws.{cut-length}
 use Rattle.reading.specs.Reading.{Reading, pureIn}
-use Rattle.reading.specs.Assign.{isAssign, leftOf, rightOf}
+use Rattle.reading.specs.Assign.{unended, isAssign, leftOf, rightOf}
 use Rattle.reading.proofs.AssignLaws.{part-le, trim-le, right-le}
 use Rattle.temps.specs.Temps.{declaredIn, tempRead, deadTemp, tempAct, tempActs, pruneDeadTempsActs, pruneDeadTemps}
 use Rattle.temps.specs.Inner.Scratch.{tempGoes, tempText, scratchLine, tempScratch}
+
+-- ---- a line whose first byte is no white space and no `t` stores no temp
+
+temp-first : (s : List ℕ) → (getD s 0 0 ≡ 116 → ⊥) → isTemp s ≡ false
+unfolding isTemp prefixed
+temp-first [] n = refl
+temp-first (x ∷ s) n = rw (ne-eqb 116 x (λ e. n (sym e)))
+
+empty-temp : isTemp (trimOf []) ≡ false
+unfolding isTemp prefixed trimOf fromOf toOf lead endWhite
+empty-temp = refl
+
+taken-temp : (c : ℕ) → plainByte c ≡ true → (c ≡ 116 → ⊥) → (r : List ℕ) (k m : ℕ) → isTemp (trimOf (take k (take m (c ∷ r)))) ≡ false
+taken-temp c t n r zero m = empty-temp
+taken-temp c t n r (suc k) zero = empty-temp
+taken-temp c t n r (suc k) (suc m) = let y : List ℕ = c ∷ take k (take m r) in temp-first (trimOf y) (trim-other c 116 t (λ z. absurd (omega arith)) n y refl)
+
+left-other : (t : List ℕ) (c : ℕ) → c ≡ getD t 0 0 → plainByte c && not (eqb c 116) ≡ true → isTemp (leftOf t) ≡ false
+unfolding leftOf upTo
+left-other [] c p h = empty-temp
+left-other (x ∷ r) c p h =
+    let k : plainByte c ≡ true = and-left (plainByte c) (not (eqb c 116)) h in
+    let n : eqb c 116 ≡ false = not-true (eqb c 116) (and-right (plainByte c) (not (eqb c 116)) h) in
+    taken-temp x (ap (λ (y : ℕ). plainByte y) (sym p) ∙ k) (λ z. eqb-false c 116 n (p ∙ z)) r (upTo 61 (unended (x ∷ r))) (length (x ∷ r) - 1)
 
 -- ---- one line
 
@@ -36,6 +63,14 @@ module _ (R : Reading) (ls : List (List ℕ)) (l t : List ℕ) (p : t ≡ trimOf
   pub goes-name : (x : List ℕ) → isAssign t ≡ true → x ≡ leftOf t → isTemp x ≡ false → tempGoes R ls l ≡ false
   unfolding tempGoes
   goes-name x e q d = rw (← p, e, ← q, d)
+
+  -- a line that begins otherwise
+  pub goes-first : (c : ℕ) → c ≡ getD t 0 0 → plainByte c && not (eqb c 116) ≡ true → tempGoes R ls l ≡ false
+  goes-first c q h = go (isAssign t) refl
+    where
+      go : (b : Bool) → isAssign t ≡ b → tempGoes R ls l ≡ false
+      go true e = goes-name (leftOf t) e refl (left-other t c q h)
+      go false e = goes-other e
 
   -- a store of a temp, of a value that is not pure, or that is
   module _ (x v : List ℕ) (e : isAssign t ≡ true) (q : x ≡ leftOf t) (d : isTemp x ≡ true) (z : v ≡ rightOf t) where
@@ -56,6 +91,13 @@ module _ (k : Bool) (d l t : List ℕ) (p : t ≡ trimOf l) where
   pub scratch-store : (b : Bool) (x : List ℕ) → isAssign t ≡ true → x ≡ leftOf t → isTemp x ≡ b → scratchLine k l d ≡ cond b (putAt d 0 (cutIn k (rightOf t))) d
   unfolding scratchLine
   scratch-store b x e q g = rw (← p, e, ← q, g)
+
+  pub scratch-first : (c : ℕ) → c ≡ getD t 0 0 → plainByte c && not (eqb c 116) ≡ true → scratchLine k l d ≡ d
+  scratch-first c q h = go (isAssign t) refl
+    where
+      go : (b : Bool) → isAssign t ≡ b → scratchLine k l d ≡ d
+      go true e = scratch-store false (leftOf t) e refl (left-other t c q h)
+      go false e = scratch-other e
 
 pub text-by : (R : Reading) (ls : List (List ℕ)) (l : List ℕ) (b : Bool) → tempGoes R ls l ≡ b → tempText R ls l ≡ cond b [] (l ++ 10 ∷ [])
 unfolding tempText

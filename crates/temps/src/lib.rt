@@ -176,6 +176,10 @@ fn goes(
     ensures memory { λ _. ⌜ now (scratch .exit) ≡ scratchLine (strictAt (mode .0)) (now (line .entry)) (now (scratch .entry)) ⌝ }
 {
     let t = text::trim(line);
+    let c = lines::byte_at(t, 0);
+    if ((32 < c) & (c < 128)) & (c != b't') {
+        return false;
+    }
     match reading::assign_of(t) {
         reading::Assign::Split(s) => {
             let name = reading::left_of(t, s);
