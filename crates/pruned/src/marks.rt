@@ -1,4 +1,4 @@
-// A mark for each declared name: whether its region uses the register.
+// A mark for each declared name, whether its region uses the register, and its digits.
 ghost use mathlib.Core.Path.{_≡_};
 ghost use mathlib.Core.Bool.{true, cond};
 ghost use mathlib.Core.List.{_∷_};
@@ -12,7 +12,7 @@ ghost use Rattle.decls.specs.Inner.Seen.{AtMost, Says};
 ghost use Rattle.pruned.specs.Inner.Fit.{digitsOf, tagOf};
 ghost use Rattle.pruned.specs.Inner.Marks.{filled, namesMarks, lineMarks, marksOf};
 
-// Tags are greater than digits.
+// Tags are greater than the bytes of digits, and this one stands for no digits.
 const FIRST_TAG: u8 = 58;
 
 const NO_TAG: u8 = 255;
@@ -60,7 +60,7 @@ fn before_last(d: &[u8]) -> u8
     d[d.len() - 2]
 }
 
-// What tells a name from most others, by its last two digits: a number above those of digits.
+// What tells a name from most others: by its last two digits.
 pub fn tag_of(d: &[u8]) -> u8
     ensures { λ r. ⌜ r ≡ tagOf (now (d .entry)) ⌝ }
 {
@@ -81,7 +81,7 @@ fn mark_of(stays: bool, d: &[u8]) -> u8
     tag_of(d)
 }
 
-// Writes the marks of the names of a declaration's body, each where its piece begins.
+// Writes the marks of the names of a declaration's body, each where its piece begins, with its digits behind it.
 fn put_names(
     body: &[u8],
     region: &[u8],

@@ -1,4 +1,4 @@
--- A mark for each declared name: whether its region uses the register. The marks of a line stand at the front of the line's own room. Assumes nothing.
+-- A mark for each declared name, whether its region uses the register, and its digits behind it. The marks of a line stand at the front of the line's own room. Assumes nothing.
 use Prim.Native.Nat.{ℕ, suc, _-_}
 use Prim.Native.Char.{code}
 use mathlib.Core.Bool.{cond}
