@@ -1,7 +1,7 @@
 -- What a search by many bytes at a time finds. Assumes nothing.
 use Prim.Native.Nat.{ℕ, zero, suc, _+_, _-_, _≤_, _<_, min}
 use mathlib.Core.Path.{_≡_, refl, sym, ap, _∙_}
-use mathlib.Core.Bool.{true, false, cond}
+use mathlib.Core.Bool.{true}
 use mathlib.Core.List.{List, [], _∷_}
 use native.Mathlib.Omega.{arith}
 use lib.ListN.{length, take, drop, length-drop}
@@ -50,7 +50,7 @@ near-drop (suc i) n [] =
 near-drop (suc i) n (x ∷ s) = let d : suc i + n ≡ suc (i + n) = omega arith in ap (λ (y : ℕ). drop (suc i) (take y (x ∷ s))) d ∙ near-drop i n s
 
 module _ (s : List ℕ) (b i n e : ℕ) (q : e ≡ i + upTo b (drop i (part 0 (i + n) s))) where
-  near-is : e ≡ i + min (upTo b (drop i s)) n
+  pub near-is : e ≡ i + min (upTo b (drop i s)) n
   near-is =
       let d : i + n - 0 ≡ i + n = omega arith in
       q ∙ ap (λ (x : ℕ). i + upTo b (drop i (take x s))) d ∙ ap (λ (x : List ℕ). i + upTo b x) (near-drop i n s) ∙ ap (λ (x : ℕ). i + x) (up-front b n (drop i s))

@@ -1,20 +1,21 @@
-// A mark for each declared name: whether its region uses the register.
+// A mark for each declared name, whether its region uses the register, and its digits.
 ghost use mathlib.Core.Path.{_≡_};
 ghost use mathlib.Core.Bool.{true, cond};
-ghost use Prim.Native.Nat.{_≤_, _+_};
-ghost use lib.ListN.{length, replicate};
+ghost use mathlib.Core.List.{_∷_};
+ghost use Prim.Native.Nat.{_≤_, _+_, _-_};
+ghost use lib.ListN.{length, getD, replicate};
 ghost use Rattle.lines.specs.Lf.{linesOf, partsOf};
 ghost use Rattle.lines.specs.Inner.Out.{Wrote};
 ghost use Rattle.text.specs.Trim.{trimOf};
 ghost use Rattle.parse.specs.Parse.{isDecl};
 ghost use Rattle.decls.specs.Inner.Seen.{AtMost, Says};
 ghost use Rattle.pruned.specs.Inner.Fit.{digitsOf, tagOf};
-ghost use Rattle.pruned.specs.Inner.Marks.{namesMarks, lineMarks, marksOf};
+ghost use Rattle.pruned.specs.Inner.Marks.{filled, namesMarks, lineMarks, marksOf};
 
-// So many digits count for a tag, and so many tags there are.
-const TAGGED: usize = 20;
+// Tags are greater than the bytes of digits, and this one stands for no digits.
+const FIRST_TAG: u8 = 58;
 
-const TAGS: usize = 251;
+const NO_TAG: u8 = 255;
 
 // Writes zeros up to a place.
 fn put_zeros(out: &mut [u8], o: usize, n: usize) -> usize
@@ -31,6 +32,16 @@ fn put_zeros(out: &mut [u8], o: usize, n: usize) -> usize
     p
 }
 
+// Writes so many bytes: those of a text, and then zeros.
+fn put_filled(out: &mut [u8], o: usize, n: usize, d: &[u8]) -> usize
+    requires { ⌜ o + n ≤ length (now out) ⌝ }
+    ensures { λ r. ⌜ Wrote (now (out .entry)) o (filled n (now (d .entry))) (now (out .exit)) r ⌝ }
+{
+    let s = lines::cut(d, 0, n);
+    let p = lines::put(out, o, s);
+    put_zeros(out, p, n - s.len())
+}
+
 // The digits of a name as it is printed: without the zeros that lead.
 fn digits(t: &[u8]) -> &[u8]
     ensures { λ r. ⌜ now r ≡ digitsOf (now (t .entry)) ⌝ }
@@ -39,34 +50,38 @@ fn digits(t: &[u8]) -> &[u8]
     lines::cut(y, names::skip_zeros(y), y.len())
 }
 
-// What tells a name from others, by its digits, with which a text begins, up to `,` or `;`: a number from 2 on. No name has that of no digits.
+// The byte before the last, or 0.
+fn before_last(d: &[u8]) -> u8
+    ensures { λ r. ⌜ r ≡ getD (0 ∷ now (d .entry)) (length (now (d .entry)) - 1) 0 ⌝ }
+{
+    if d.len() < 2 {
+        return 0;
+    }
+    d[d.len() - 2]
+}
+
+// What tells a name from most others: by its last two digits.
 pub fn tag_of(d: &[u8]) -> u8
     ensures { λ r. ⌜ r ≡ tagOf (now (d .entry)) ⌝ }
 {
-    let s = lines::cut(d, 0, TAGGED);
-    let mut h = TAGS;
-    let mut i = 0;
-    while i < s.len() {
-        if (s[i] == b',') | (s[i] == b';') {
-            return h as u8 + 2;
-        }
-        h = (h * 10 + s[i] as usize % 16) % TAGS;
-        i += 1;
+    if d.len() == 0 {
+        return NO_TAG;
     }
-    h as u8 + 2
+    let b = before_last(d);
+    FIRST_TAG + b % 16 * 10 + d[d.len() - 1] % 16
 }
 
-// The mark of a name: 1 where it stays, else its tag.
-fn mark_of(stays: bool, t: &[u8]) -> u8
-    ensures { λ r. ⌜ r ≡ cond stays 1 (tagOf (digitsOf (now (t .entry)))) ⌝ }
+// The mark of a name with these digits: 1 where it stays, else its tag.
+fn mark_of(stays: bool, d: &[u8]) -> u8
+    ensures { λ r. ⌜ r ≡ cond stays 1 (tagOf (now (d .entry))) ⌝ }
 {
     if stays {
         return 1;
     }
-    tag_of(digits(t))
+    tag_of(d)
 }
 
-// Writes the marks of the names of a declaration's body, each where its piece begins.
+// Writes the marks of the names of a declaration's body, each where its piece begins, with its digits behind it.
 fn put_names(
     body: &[u8],
     region: &[u8],
@@ -85,8 +100,9 @@ fn put_names(
         let e = lines::find_byte(body, i, b',');
         let t = text::trim(&body[i..e]);
         let s = decls::stays_in(region, own, m, seen, t);
-        p = lines::put_byte(out, p, mark_of(s, t));
-        p = put_zeros(out, p, e - i);
+        let d = digits(t);
+        p = lines::put_byte(out, p, mark_of(s, d));
+        p = put_filled(out, p, e - i, d);
         if e >= body.len() {
             return p;
         }

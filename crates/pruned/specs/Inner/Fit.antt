@@ -1,51 +1,51 @@
 -- What may become of a line, told by the marks of its names. Assumes nothing.
-use Prim.Native.Nat.{ℕ, suc, _+_, _-_, _*_, _%_, _≤_, _<_}
+use Prim.Native.Nat.{ℕ, suc, _+_, _-_, _*_, _%_, min}
 use Prim.Native.Char.{code}
-use mathlib.Core.Path.{_≡_}
-use mathlib.Core.Bool.{Bool, true, false, cond, not, _&&_, _||_}
-use mathlib.Core.List.{List, [], _∷_, _++_}
-use lib.Dec.{eqb}
+use mathlib.Core.Bool.{Bool, false, cond, not, _&&_, _||_}
+use mathlib.Core.List.{List, [], _∷_}
+use lib.Dec.{eqb, ltb}
 use lib.ListN.{length, take, drop, getD}
 use Rattle.lines.specs.Ascii.{ascii}
-use Rattle.lines.specs.Lf.{partsOf, prefixed, same}
+use Rattle.lines.specs.Lf.{part, upTo, partsOf, prefixed, same}
 use Rattle.lines.specs.Inner.Lf.{lacks}
 use Rattle.text.specs.Trim.{fromOf, trimOf}
 use Rattle.names.specs.Inner.Names.{zeros}
+use Rattle.words.specs.Inner.Runs.{runLen}
 use Rattle.parse.specs.Parse.{letWord, bodyOf}
-use Rattle.decls.specs.Inner.Print.{bareName}
 
 -- `,` or `;`
 abbrev pub isStop : ℕ → Bool
 isStop b = eqb b (code ",") || eqb b (code ";")
 
--- the name n stands in front and `,` or `;` follows it: its length, and else 0
-unfoldable pub nameLen : List ℕ → List ℕ → ℕ
-nameLen n q = cond (prefixed n q && isStop (getD q (length n) 0)) (length n) 0
+-- c, a space and `r` stand in front
+abbrev pub isFront : ℕ → List ℕ → Bool
+isFront c q = eqb (getD q 0 0) c && (eqb (getD q 1 0) 32 && eqb (getD q 2 0) (code "r"))
 
--- the same behind the byte c and a space, with these
-unfoldable pub goesOn : ℕ → List ℕ → List ℕ → ℕ
-unfolding nameLen
-goesOn c n q = cond (prefixed (c ∷ ascii " ") q) (cond (eqb (nameLen n (drop 2 q)) 0) 0 (nameLen n (drop 2 q) + 2)) 0
+-- how many bytes the next name takes in q: c, a space, `r` and name bytes, where `,` or `;` follows; 0 where there is none
+unfoldable pub nextLen : ℕ → List ℕ → ℕ
+nextLen c q = cond (isFront c q && isStop (getD q (3 + runLen (drop 3 q)) 0)) (3 + runLen (drop 3 q)) 0
 
--- ---- what tells names apart, so that most are passed over unread
+-- what of it follows the `r`
+abbrev pub nextDigits : ℕ → List ℕ → List ℕ
+nextDigits c q = part 3 (nextLen c q) q
 
--- the bytes up to a stop read as digits, the rest of the number by 251; h stands for those before
-unfoldable pub tagGo : List ℕ → ℕ → ℕ
-tagGo [] h = h
-tagGo (x ∷ d) h = cond (isStop x) h (tagGo d ((h * 10 + x % 16) % 251))
-
--- the tag of the digits of a name, with which a text begins: a number from 2 on, by the first twenty; 253, which no name has, where there is none
-unfoldable pub tagOf : List ℕ → ℕ
-unfolding tagGo
-tagOf d = tagGo (take 20 d) 251 + 2
+-- ---- what tells names apart: behind the mark of a name stand its digits
 
 -- the digits of a name as it is printed
 abbrev pub digitsOf : List ℕ → List ℕ
 digitsOf t = drop (1 + zeros (drop 1 t)) t
 
--- what q goes on with, of a piece p whose mark is m: only where that is 1, or t, the tag of what stands next in q
-abbrev pub takes : ℕ → ℕ → ℕ → List ℕ → List ℕ → ℕ
-takes c m t p q = cond (eqb m 1 || eqb m t) (goesOn c (bareName 1 (trimOf p)) q) 0
+-- the tag of digits, by the last two of them: a number above those of digits, so that it is found where a mark stands; 255, which no name has, of none
+unfoldable pub tagOf : List ℕ → ℕ
+tagOf d = cond (eqb (length d) 0) 255 (58 + getD (0 ∷ d) (length d - 1) 0 % 16 * 10 + getD d (length d - 1) 0 % 16)
+
+-- the digits d, and no more, stand in front
+unfoldable pub hasDigits : List ℕ → List ℕ → Bool
+hasDigits d ms = prefixed d ms && eqb (getD ms (length d) 0) 0
+
+-- how many bytes a piece with the marks ms takes, where the next name takes n and has the tag t and the digits d: n, where it is that one, and else none
+abbrev pub takes : ℕ → ℕ → List ℕ → List ℕ → ℕ
+takes n t d ms = cond ((eqb (getD ms 0 0) 1 || eqb (getD ms 0 0) t) && hasDigits d (drop 1 ms)) n 0
 
 -- the byte in front of the next name: `,` once a name was taken
 abbrev pub leadOn : ℕ → ℕ → ℕ
@@ -54,20 +54,32 @@ leadOn c k = cond (eqb k 0) c 44
 -- what q has of the names of a declaration's pieces, and then `;`: a name is taken where q goes on with it, and else must not have the mark 1. A piece has
 -- its mark where it begins
 unfoldable pub fitGo : ℕ → List (List ℕ) → List ℕ → List ℕ → Bool
-unfolding goesOn tagOf
+unfolding nextLen tagOf hasDigits
 fitGo c [] ms q = same (ascii ";") q
 fitGo c (p ∷ ps) ms q =
-    let k = takes c (getD ms 0 0) (tagOf (drop 3 q)) p q in
+    let k = takes (nextLen c q) (tagOf (nextDigits c q)) (nextDigits c q) ms in
     let on = fitGo (leadOn c k) ps (drop (suc (length p)) ms) (drop k q) in
     cond (eqb k 0 && eqb (getD ms 0 0) 1) false on
 
--- no mark m from a up to b
-abbrev pub Unmarked : ℕ → ℕ → ℕ → List ℕ → Type 0
-Unmarked a b m ms = (x : ℕ) → a ≤ x → x < b → getD ms x 0 ≡ m → ⊥
+-- ---- searches, so that most names are passed over unread
 
--- g is i, or behind a comma behind i, or past the end
-abbrev pub Skips : List ℕ → ℕ → ℕ → Type 0
-Skips body i g = (i ≤ g) × (i < g → g ≤ length body → getD body (g - 1) 0 ≡ 44)
+-- the first mark 1 from i on; m, where one was found behind i
+abbrev pub nextMark : ℕ → ℕ → List ℕ → ℕ
+nextMark i m ms = cond (ltb i m) m (i + upTo 1 (drop i ms))
+
+-- how many bytes stand before the tag t with the digits d behind it: all, where there is none
+unfoldable pub upToName : ℕ → List ℕ → List ℕ → ℕ
+unfolding hasDigits
+upToName t d [] = 0
+upToName t d (x ∷ ms) = cond (eqb x t && hasDigits d ms) 0 (suc (upToName t d ms))
+
+-- its place from i on, but not behind m
+abbrev pub nameFrom : ℕ → ℕ → ℕ → List ℕ → List ℕ → ℕ
+nameFrom i m t d ms = i + min (upToName t d (drop i ms)) (m - i)
+
+-- g, where that is past the end or a piece begins there, and else i
+abbrev pub pieceAt : List ℕ → ℕ → ℕ → ℕ
+pieceAt body i g = cond (ltb (length body) g || eqb (getD body (g - 1) 0) 44) g i
 
 -- the line p is the declaration l with names left out; the `t ` of its `let ` stands before the first name
 unfoldable pub reprinted : List ℕ → List ℕ → List ℕ → Bool
