@@ -1,2 +1,3 @@
 pub mod Tame
 pub mod StepLaws
+pub mod Traces
