@@ -83,7 +83,7 @@ pub record RemoveInv (t d₀ d m₀ m : List ℕ) (i o k : ℕ) : Type 0 where
   pub writing : Writing 0 (unlines (removeGlobals (linesOf t))) (toGo (linesOf (drop i t))) d₀ d o
   pub noting : Writing 0 (toMove (linesOf t)) (toMove (linesOf (drop i t))) m₀ m k
 
-acts-length : (ms : List (List ℕ)) → length (globalsActs ms) ≡ length ms
+pub acts-length : (ms : List (List ℕ)) → length (globalsActs ms) ≡ length ms
 unfolding globalsActs
 acts-length [] = refl
 acts-length (m ∷ ms) = ap suc (acts-length ms)
