@@ -335,7 +335,7 @@ both-traced xs ys t h k p q =
 pub marks-many : (R : Reading) (ls : List (List ℕ)) → length (onceMarks R ls) ≡ length ls
 marks-many R ls = ap length (sym (marks-of R ls)) ∙ marks-length R ls (tops (blockPaths ls)) (flagsOf (insideLoop ls))
 
-once-many : (R : Reading) (ls : List (List ℕ)) → length (onceActs R ls) ≡ length ls
+pub once-many : (R : Reading) (ls : List (List ℕ)) → length (onceActs R ls) ≡ length ls
 once-many R ls = sym (moves-length (onceActs R ls)) ∙ ap length (once-laws.once-moves R ls) ∙ once-laws.moves-many (onceMarks R ls) ∙ marks-many R ls
 
 module _ (R : Reading) (ls : List (List ℕ)) {n r : ℕ} {m₀ m b b′ : List ℕ} (e : n ≡ length ls) (h : n < half) (f : Filled m₀ (onceMarks R ls) m (length (onceMarks R ls))) (w : Wrote b 0 (moveMarks (take n m)) b′ r) where
@@ -362,7 +362,7 @@ module _ (R : Reading) (ls : List (List ℕ)) {n r : ℕ} {m₀ m b b′ : List 
 
 -- ---- a text within bounds has few lines
 
-lines-most : (ls : List (List ℕ)) → length ls ≤ length (unlines ls)
+pub lines-most : (ls : List (List ℕ)) → length ls ≤ length (unlines ls)
 unfolding unlines
 lines-most [] = omega arith
 lines-most (l ∷ ls) = let h = lines-most ls in omega (arith, length-append l (10 ∷ unlines ls))
