@@ -36,6 +36,13 @@ fn block_room() -> [u32; 16392]
     [input::lent::BLOCK; 16392]
 }
 
+// A filled buffer for records, some longer than the most lines take.
+fn record_room() -> [u8; 7176]
+    ensures { λ r. ⌜ 7176 ≡ length r ⌝ }
+{
+    [input::lent::BYTE; 7176]
+}
+
 // How much of the work buffer `which` is lent, of `there`: one element less than is stated where the request says so.
 fn lent_of(there: usize, short: u8, which: u8, stated: usize) -> usize
     ensures { λ r. ⌜ r ≤ there ⌝ }
@@ -72,11 +79,24 @@ fn run(
     e: &mut [u8],
     u: &mut [u32],
     out: &mut [u8],
+    orig: &mut [u8],
 ) -> Answer {
     if pass == 0 {
-        return opt::optimize(mode as usize, text, a, b, c, d, e, u, out);
+        return opt::optimize(mode as usize, text, a, b, c, d, e, u, out, orig);
     }
-    opt::run_pass(pass as usize, mode as usize, text, a, b, c, d, e, u, out)
+    opt::run_pass(
+        pass as usize,
+        mode as usize,
+        text,
+        a,
+        b,
+        c,
+        d,
+        e,
+        u,
+        out,
+        orig,
+    )
 }
 
 // Lends as much of each buffer as the request says.
@@ -90,6 +110,7 @@ fn ask(
     e: &mut [u8],
     u: &mut [u32],
     out: &mut [u8],
+    orig: &mut [u8],
 ) -> Answer {
     let ka = lent_of(a.len(), q.short, 1, BYTES);
     let kb = lent_of(b.len(), q.short, 2, BYTES);
@@ -109,6 +130,7 @@ fn ask(
         &mut e[..ke],
         &mut u[..ku],
         &mut out[..room],
+        orig,
     )
 }
 
@@ -125,7 +147,7 @@ fn work_fixed(ran: bool, a: &[u8], b: &[u8], c: &[u8], d: &[u8], e: &[u8], u: &[
 // Whether the passes ran.
 fn has_run(got: Answer) -> bool {
     let number = limits::number_of(got);
-    (number == 0) | (number == 7)
+    (number == 0) | (number == 7) | (number == 8)
 }
 
 // Writes an answer, and returns whether it went out.
@@ -138,16 +160,20 @@ fn tell(
     e: &[u8],
     u: &[u32],
     out: &[u8],
+    orig: &[u8],
 ) -> bool {
     let n = limits::length_of(got);
     let memory = work_fixed(has_run(got), a, b, c, d, e, u) & input::lent::kept_from(out, n);
-    wire::write_answer(
+    if wire::write_answer(
         STDOUT_FILENO,
         limits::number_of(got),
         memory,
         limits::place_of(got),
         lines::cut(out, 0, n),
-    )
+    ) {
+        return wire::write_records(STDOUT_FILENO, orig);
+    }
+    false
 }
 
 // Answers a request over buffers that are filled anew, and returns whether the answer went out.
@@ -159,6 +185,8 @@ fn answer(q: Request, text: &[u8]) -> bool {
     let mut e = byte_room();
     let mut u = block_room();
     let mut out = byte_room();
+    let mut orig = record_room();
+    let k = room_of(orig.len(), q.records);
     let got = ask(
         q,
         text,
@@ -169,8 +197,9 @@ fn answer(q: Request, text: &[u8]) -> bool {
         &mut e,
         &mut u,
         &mut out,
+        &mut orig[..k],
     );
-    tell(got, &a, &b, &c, &d, &e, &u, &out)
+    tell(got, &a, &b, &c, &d, &e, &u, &out, lines::cut(&orig, 0, k))
 }
 
 // Reads a request and answers it, and returns whether to go on.
