@@ -119,6 +119,7 @@ fn ask(
     let ke = lent_of(e.len(), q.short, 5, BYTES);
     let ku = lent_of(u.len(), q.short, 6, BLOCKS);
     let room = room_of(out.len(), q.room);
+    let records = room_of(orig.len(), q.records);
     run(
         q.pass,
         q.mode,
@@ -130,7 +131,7 @@ fn ask(
         &mut e[..ke],
         &mut u[..ku],
         &mut out[..room],
-        orig,
+        &mut orig[..records],
     )
 }
 
@@ -153,6 +154,7 @@ fn has_run(got: Answer) -> bool {
 // Writes an answer, and returns whether it went out.
 fn tell(
     got: Answer,
+    records: usize,
     a: &[u8],
     b: &[u8],
     c: &[u8],
@@ -171,7 +173,7 @@ fn tell(
         limits::place_of(got),
         lines::cut(out, 0, n),
     ) {
-        return wire::write_records(STDOUT_FILENO, orig);
+        return wire::write_records(STDOUT_FILENO, lines::cut(orig, 0, records));
     }
     false
 }
@@ -186,7 +188,7 @@ fn answer(q: Request, text: &[u8]) -> bool {
     let mut u = block_room();
     let mut out = byte_room();
     let mut orig = record_room();
-    let k = room_of(orig.len(), q.records);
+    let records = q.records;
     let got = ask(
         q,
         text,
@@ -197,9 +199,9 @@ fn answer(q: Request, text: &[u8]) -> bool {
         &mut e,
         &mut u,
         &mut out,
-        &mut orig[..k],
+        &mut orig,
     );
-    tell(got, &a, &b, &c, &d, &e, &u, &out, lines::cut(&orig, 0, k))
+    tell(got, records, &a, &b, &c, &d, &e, &u, &out, &orig)
 }
 
 // Reads a request and answers it, and returns whether to go on.
