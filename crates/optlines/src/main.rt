@@ -35,6 +35,13 @@ fn block_room() -> [u32; 16384]
     [0; 16384]
 }
 
+// A buffer for the records of a text.
+fn record_room() -> [u8; 7168]
+    ensures { λ r. ⌜ 7168 ≡ length r ⌝ }
+{
+    [0; 7168]
+}
+
 // Tidies a text, with the work buffers that it needs.
 fn tidy(mode: usize, text: &[u8], out: &mut [u8]) -> Answer {
     let mut a = work_room();
@@ -43,6 +50,7 @@ fn tidy(mode: usize, text: &[u8], out: &mut [u8]) -> Answer {
     let mut d = work_room();
     let mut e = work_room();
     let mut u = block_room();
+    let mut orig = record_room();
     opt::optimize(
         mode,
         text,
@@ -53,6 +61,7 @@ fn tidy(mode: usize, text: &[u8], out: &mut [u8]) -> Answer {
         &mut e,
         &mut u,
         out,
+        &mut orig,
     )
 }
 
@@ -64,6 +73,7 @@ fn run_one(pass: usize, mode: usize, text: &[u8], out: &mut [u8]) -> Answer {
     let mut d = work_room();
     let mut e = work_room();
     let mut u = block_room();
+    let mut orig = record_room();
     opt::run_pass(
         pass,
         mode,
@@ -75,6 +85,7 @@ fn run_one(pass: usize, mode: usize, text: &[u8], out: &mut [u8]) -> Answer {
         &mut e,
         &mut u,
         out,
+        &mut orig,
     )
 }
 
