@@ -63,11 +63,7 @@ fn stay(moves: &mut [usize], k: usize, n: usize) -> usize
     requires { ⌜ k + n ≤ length (now moves) ⌝ }
     ensures { λ r. ⌜ Wrote (now (moves .entry)) k (replicate n 0) (now (moves .exit)) r ⌝ }
 {
-    let mut i = 0;
-    while i < n {
-        moves[k + i] = 0;
-        i += 1;
-    }
+    lines::wipe_words(&mut moves[k..k + n]);
     k + n
 }
 
