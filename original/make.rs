@@ -1,6 +1,7 @@
 //! Makes requests, the same for the same seed on every machine. See README.md.
 
 mod asking;
+mod cuts;
 mod ends;
 mod grammar;
 mod judge;
@@ -198,8 +199,22 @@ fn flaws(wire: &mut Wire, mut texts: impl Iterator<Item = Vec<u8>>) -> Option<()
     texts.try_for_each(|text| write(wire, &in_room(0, PLAIN, text)))
 }
 
+/// For each cut three requests, of a pass to which the law of cuts applies: for the whole text, for the upper part and for the tail.
+fn cut_texts(wire: &mut Wire, seed: u64, count: u64) -> Option<()> {
+    let texts = Texts::new();
+    (0..count).try_for_each(|index| {
+        let r = &mut Random::new(seed, index);
+        let (pass, mode) = (r.between(4, 6) as u8, r.below(2) as u8);
+        let (text, at) = cuts::cut_text(&texts, r, pass);
+        for part in [&text[..], &text[..at], &text[at..]] {
+            write(wire, &in_room(pass, mode, part.into()))?;
+        }
+        Some(())
+    })
+}
+
 fn number(word: Option<&String>) -> u64 {
-    let usage = "make SEED COUNT | make leaves SEED COUNT [FUNCTION..] | make all ALPHABET TOKENS [PASS..] | make flaws SEED COUNT | make flaws all BYTES";
+    let usage = "make SEED COUNT | make leaves SEED COUNT [FUNCTION..] | make all ALPHABET TOKENS [PASS..] | make flaws SEED COUNT | make flaws all BYTES | make cuts SEED COUNT";
     word.and_then(|w| w.parse().ok()).unwrap_or_else(|| wire::usage(usage))
 }
 
@@ -221,6 +236,7 @@ fn main() {
             let (seed, count) = (number(words.get(1)), number(words.get(2)));
             flaws(&mut wire, (0..count).map(|index| texts::flawed(&mut Random::new(seed, index))))
         }
+        Some("cuts") => cut_texts(&mut wire, number(words.get(1)), number(words.get(2))),
         Some("all") => {
             let passes = if words.len() > 3 { numbers(&words) } else { (0..=6).collect() };
             let named = words.get(1).and_then(|name| Alphabet::of(name));

@@ -108,13 +108,21 @@ class Texts:
         return head + (":\n" + shown(result) if result else "") + "\n  records: " + Texts.show_records(records)
 
     @staticmethod
-    def show_records(records):
-        """What is written as input line: fate, output line; the bytes from the first that is no record on in hexadecimal."""
-        told, at = [], 0
-        while records[at : at + 2] == b"OL" and at + Texts.RECORD.size <= len(records):
-            told.append("{1}:{2},{3}".format(*Texts.RECORD.unpack_from(records, at)))
-            at += Texts.RECORD.size
-        rest = records[at:]
+    def records(buffer):
+        """The records at the front of a buffer, as far as the mark stands there: mark, input line, fate, output line."""
+        found, size = [], Texts.RECORD.size
+        for at in range(0, len(buffer) - size + 1, size):
+            if buffer[at : at + 2] != b"OL":
+                break
+            found.append(Texts.RECORD.unpack_from(buffer, at))
+        return found
+
+    @staticmethod
+    def show_records(buffer):
+        """Input line, fate and output line of each record; then the bytes that are none."""
+        found = Texts.records(buffer)
+        told = ["{1}:{2},{3}".format(*each) for each in found]
+        rest = buffer[len(found) * Texts.RECORD.size :]
         same = len(rest) - len(rest.lstrip(rest[:1]))
         if same:
             told.append(f"then {same} bytes {rest[0]:02x}, {rest[same:][:40].hex(' ') or 'no more'}")

@@ -1,0 +1,46 @@
+"""The law of cuts, asked of one program's answers: what it says of a whole text beside what it says of the two parts."""
+from protocol import Texts
+
+STANDS = (0, 1)  # the fates of a line that is an output line
+GONE = 65535
+
+
+def told(answer):
+    """The lines of a result before they were joined, and fate and output line of each input line; nothing where it is refused."""
+    number, _, _, result, records = Texts.answer(answer)
+    if number:
+        return None
+    fates = [each[2:] for each in Texts.records(records)]
+    count = sum(1 for fate, _ in fates if fate in STANDS)
+    return result.split(b"\n")[:count], fates
+
+
+def broken(answers):
+    """What the answers for a whole, its upper part and its tail break of the law; nothing where they keep it, or one is refused."""
+    three = [told(answer) for answer in answers]
+    if None in three:
+        return None
+    (whole_lines, whole), (upper_lines, upper), (tail_lines, tail) = three
+    if whole_lines != upper_lines + tail_lines:
+        return "the lines are not those of the upper part and those of the tail"
+    if whole != upper + [(fate, out if out == GONE else out + len(upper_lines)) for fate, out in tail]:
+        return "the records are not those of the upper part and those of the tail, shifted"
+    return None
+
+
+def check(side, requests, answers):
+    """Counts the cuts at which a program's answers break the law, and shows the smallest; gives their number."""
+    threes = list(zip(*[iter(zip(requests, answers))] * 3))
+    wrong, refused = [], 0
+    for three in threes:
+        asked, got = zip(*three)
+        refused += any(Texts.answer(each)[0] for each in got)
+        what = broken(got)
+        if what:
+            wrong.append((what, asked, got))
+    for what, asked, got in sorted(wrong, key=lambda each: len(each[1][0]))[:3]:
+        print(f"--- {side}: {what}")
+        for part, request, answer in zip(("whole", "upper part", "tail"), asked, got):
+            print(f"  {part}: {Texts.show_request(request)}\n  is {Texts.show_answer(answer)}")
+    print(f"{side}: {len(threes)} cuts, {refused} refused, {len(wrong)} break the law of cuts")
+    return len(wrong)
