@@ -7,9 +7,9 @@ pub const MOST_BYTES: usize = 16_384;
 pub const MOST_LINES: usize = 1_024;
 pub const MOST_BRACKETS: usize = 64;
 pub const MOST_ROOM: u32 = 32_768;
-/// The bytes of a record, and of the records of as many lines as a text may have.
+/// The bytes of a record, and the most that are lent for records: some more than those of as many lines as a text may have.
 pub const RECORD: usize = 7;
-pub const MOST_RECORDS: u32 = (RECORD * MOST_LINES) as u32;
+pub const MOST_RECORDS: u32 = (RECORD * MOST_LINES) as u32 + 8;
 /// What lent buffers are filled with.
 pub const FILLED: u8 = 165;
 /// The number of lent work buffers.

@@ -147,29 +147,28 @@ fn near_room(r: &mut Random, asked: &Asked) -> u32 {
     }
 }
 
-/// How long the records of a text are, as far as they are lent.
+/// How long the records of a text are, if it has no more lines than it may have.
 fn records_for(text: &[u8]) -> u32 {
     let ends = text.iter().filter(|b| **b == b'\n').count();
     let lines = ends + text.last().is_some_and(|b| *b != b'\n') as usize;
     (RECORD * lines.min(MOST_LINES)) as u32
 }
 
-/// Of so many record buffers one is a byte short, one shorter, one empty, one exact, one as long as it may be; the others have some more.
+/// Of so many record buffers one is a byte short, one shorter, one empty, one exact, one as long as it may be or longer; the others have some more.
 fn near_records(r: &mut Random, need: u32, of: usize) -> u32 {
-    let near = match r.below(of) {
+    match r.below(of) {
         0 => need.saturating_sub(1),
         1 => r.below(need as usize + 1) as u32,
         2 => 0,
         3 => need,
-        4 => MOST_RECORDS,
+        4 => *r.pick(&[&MOST_RECORDS, &(MOST_RECORDS + 1), &u32::MAX]),
         _ => need + r.below(16) as u32,
-    };
-    near.min(MOST_RECORDS)
+    }
 }
 
 /// A request in which nothing is too short.
 fn in_room(pass: u8, mode: u8, text: Vec<u8>) -> Asked {
-    Asked { pass, mode, short: 0, room: MOST_ROOM, records: (records_for(&text) + SPARE).min(MOST_RECORDS), text }
+    Asked { pass, mode, short: 0, room: MOST_ROOM, records: records_for(&text) + SPARE, text }
 }
 
 fn write(wire: &mut Wire, asked: &Asked) -> Option<()> {
