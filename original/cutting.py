@@ -3,6 +3,7 @@ from protocol import Texts
 
 STANDS = (0, 1)  # the fates of a line that is an output line
 GONE = 65535
+SHOWN = 3
 
 
 def told(answer):
@@ -30,17 +31,16 @@ def broken(answers):
 
 def check(side, requests, answers):
     """Counts the cuts at which a program's answers break the law, and shows the smallest; gives their number."""
-    threes = list(zip(*[iter(zip(requests, answers))] * 3))
-    wrong, refused = [], 0
-    for three in threes:
-        asked, got = zip(*three)
+    cuts, wrong, refused = len(answers) // 3, [], 0
+    for at in range(0, 3 * cuts, 3):
+        asked, got = requests[at : at + 3], answers[at : at + 3]
         refused += any(Texts.answer(each)[0] for each in got)
         what = broken(got)
         if what:
             wrong.append((what, asked, got))
-    for what, asked, got in sorted(wrong, key=lambda each: len(each[1][0]))[:3]:
+    for what, asked, got in sorted(wrong, key=lambda each: len(each[1][0]))[:SHOWN]:
         print(f"--- {side}: {what}")
         for part, request, answer in zip(("whole", "upper part", "tail"), asked, got):
             print(f"  {part}: {Texts.show_request(request)}\n  is {Texts.show_answer(answer)}")
-    print(f"{side}: {len(threes)} cuts, {refused} refused, {len(wrong)} break the law of cuts")
+    print(f"{side}: {cuts} cuts, {refused} refused, {len(wrong)} break the law of cuts")
     return len(wrong)
