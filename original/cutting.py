@@ -7,13 +7,13 @@ SHOWN = 3
 
 
 def told(answer):
-    """The lines of a result before they were joined, and fate and output line of each input line; nothing where it is refused."""
-    number, _, _, result, records = Texts.answer(answer)
+    """The lines of a result before they were joined, and the records: input line, fate, output line. Nothing where it is refused."""
+    number, _, _, result, buffer = Texts.answer(answer)
     if number:
         return None
-    fates = [each[2:] for each in Texts.records(records)]
-    count = sum(1 for fate, _ in fates if fate in STANDS)
-    return result.split(b"\n")[:count], fates
+    records = [each[1:] for each in Texts.records(buffer)]
+    count = sum(1 for _, fate, _ in records if fate in STANDS)
+    return result.split(b"\n")[:count], records
 
 
 def broken(answers):
@@ -24,7 +24,8 @@ def broken(answers):
     (whole_lines, whole), (upper_lines, upper), (tail_lines, tail) = three
     if whole_lines != upper_lines + tail_lines:
         return "the lines are not those of the upper part and those of the tail"
-    if whole != upper + [(fate, out if out == GONE else out + len(upper_lines)) for fate, out in tail]:
+    shifted = [(line + len(upper), fate, out if out == GONE else out + len(upper_lines)) for line, fate, out in tail]
+    if whole != upper + shifted:
         return "the records are not those of the upper part and those of the tail, shifted"
     return None
 
