@@ -44,7 +44,7 @@ _WORDS = {
     BAD_MODE: "there is no such mode: they are 0 and 1",
 }
 _UNKNOWN = "refused with number {number} and place {place}, unknown to this module"
-_SONAME = "liboptlines.so.2"
+_SONAME = "liboptlines.so.3"
 _LARGEST = 2 ** (8 * ctypes.sizeof(ctypes.c_size_t)) - 1
 
 

@@ -233,8 +233,8 @@ class Module(unittest.TestCase):
         return ran.stderr.decode()
 
     def test_no_library(self):
-        said = self.imported("", OPTLINES_LIBRARY="/nowhere/liboptlines.so.2")
-        self.assertIn("ImportError: optlines: cannot load /nowhere/liboptlines.so.2", said)
+        said = self.imported("", OPTLINES_LIBRARY="/nowhere/liboptlines.so.3")
+        self.assertIn("ImportError: optlines: cannot load /nowhere/liboptlines.so.3", said)
         self.assertIn("run `make lib` in the repository, or set OPTLINES_LIBRARY", said)
 
     def test_another_library(self):
