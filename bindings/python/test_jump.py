@@ -8,6 +8,7 @@ import unittest
 
 sys.dont_write_bytecode = True
 HERE = os.path.dirname(os.path.abspath(__file__))
+SAMPLE = os.path.join(HERE, "..", "..", "docs", "sample", "chapel")
 sys.path.insert(0, HERE)
 import optlines
 import optrecords
@@ -29,8 +30,9 @@ class Jump(unittest.TestCase):
                          [[0, 1, 2, 3], [4], [], []])
 
     def test_the_sample_by_each_entry(self):
-        with open(os.path.join(HERE, "..", "..", "docs", "sample", "chapel.txt"), "rb") as sample:
+        with open(SAMPLE + ".txt", "rb") as sample, open(SAMPLE + ".ol", "rb") as origins:
             text = sample.read()
+            self.assertEqual(optlines.optimize(text).origins, origins.read())
         for mode in (optlines.PLAIN, optlines.STRICT):
             self.agrees(optlines.optimize(text, mode))
             for number in range(1, 7):

@@ -5,6 +5,7 @@
 use optlines::{optimize, records, run_pass, Fate, Mode, Record, Tidy};
 
 const SAMPLE: &[u8] = include_bytes!("../../../docs/sample/chapel.txt");
+const ORIGINS: &[u8] = include_bytes!("../../../docs/sample/chapel.ol");
 
 /// What the module reads in a record, as a call tells it.
 fn as_told(line: usize, said: records::Fate) -> Record {
@@ -41,6 +42,8 @@ fn a_call_and_what_it_took_in() {
 
 #[test]
 fn the_sample_by_each_entry() {
+    let tidy = optimize(Mode::Plain, SAMPLE).expect("a result");
+    assert_eq!(tidy.origins, ORIGINS);
     for mode in [Mode::Plain, Mode::Strict] {
         agrees(&optimize(mode, SAMPLE).expect("a result"));
         for pass in 1..=6 {
