@@ -319,14 +319,17 @@ fn brackets(n: usize) -> Vec<u8> {
     [b"a\n".to_vec(), b"[".repeat(n)].concat()
 }
 
-/// A call with neither room for a result nor for records.
-fn no_room(pass: usize, text: &[u8], short: usize) -> Call<'_> {
-    Call {
-        pass,
-        text,
-        short,
-        room: 0,
-        records: 0,
+/// A call that is refused whatever room it has for a result and for records: none, or enough.
+fn refused_anyway(pass: usize, text: &[u8], short: usize, refusal: Refusal) {
+    for (room, records) in [(0, 0), (2 * TEXT, RECORDS)] {
+        let call = Call {
+            pass,
+            text,
+            short,
+            room,
+            records,
+        };
+        refused(call, refusal);
     }
 }
 
@@ -334,19 +337,19 @@ fn no_room(pass: usize, text: &[u8], short: usize) -> Call<'_> {
 fn refusals() {
     let long = b"x".repeat(TEXT + 1);
     for pass in [7, usize::MAX] {
-        refused(no_room(pass, &long, 1), Refusal::BadPass);
+        refused_anyway(pass, &long, 1, Refusal::BadPass);
     }
     assert_eq!(run_pass(0, Mode::Plain, SAMPLE), Err(Refusal::BadPass));
-    refused(no_room(0, &long, 1), Refusal::TooLong);
+    refused_anyway(0, &long, 1, Refusal::TooLong);
     for short in 1..=6 {
-        refused(no_room(0, b"\xFF", short), Refusal::ShortWork);
+        refused_anyway(0, b"\xFF", short, Refusal::ShortWork);
     }
-    refused(no_room(0, b"ab\xE2\x82\n", 0), Refusal::NotUtf8(2));
-    refused(no_room(0, b"ab\xE2\x82", 0), Refusal::Cut(2));
-    refused(no_room(6, b"ab\xC0\x80", 0), Refusal::Overlong(2));
-    refused(no_room(6, b"ab\xED\xA0\x80", 0), Refusal::Outside(2));
-    refused(no_room(0, &lines(LINES + 1), 0), Refusal::TooManyLines);
-    refused(no_room(0, &brackets(BRACKETS + 1), 0), Refusal::Crowded(1));
+    refused_anyway(0, b"ab\xE2\x82\n", 0, Refusal::NotUtf8(2));
+    refused_anyway(0, b"ab\xE2\x82", 0, Refusal::Cut(2));
+    refused_anyway(6, b"ab\xC0\x80", 0, Refusal::Overlong(2));
+    refused_anyway(6, b"ab\xED\xA0\x80", 0, Refusal::Outside(2));
+    refused_anyway(0, &lines(LINES + 1), 0, Refusal::TooManyLines);
+    refused_anyway(0, &brackets(BRACKETS + 1), 0, Refusal::Crowded(1));
     let short = Call {
         room: TIDY.len() - 1,
         ..Call::of(0, SAMPLE)
