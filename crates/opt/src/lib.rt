@@ -288,3 +288,26 @@ pub fn run_pass(
     }
     tidy_small(pass, pass + 1, mode, text, a, b, c, d, e, u, out, orig)
 }
+
+// Runs the first stages over a text, so many as `n` says: the removal of the lines that declare globals is the first of seven, and each pass one more. It writes the
+// result and the records likewise, in the same work buffers.
+pub fn run_stages(
+    n: usize,
+    mode: usize,
+    text: &[u8],
+    a: &mut [u8],
+    b: &mut [u8],
+    c: &mut [u8],
+    d: &mut [u8],
+    e: &mut [u8],
+    u: &mut [u32],
+    out: &mut [u8],
+    orig: &mut [u8],
+) -> limits::Answer
+    ensures answer { λ r. ⌜ r ≡ wholeAnswer small mode (isShort small (length (now (a .entry))) (length (now (b .entry))) (length (now (c .entry))) (length (now (d .entry))) (length (now (e .entry))) (length (now (u .entry)))) (now (text .entry)) (resultOf (stepsOf (readingOf mode) 0 n) (now (text .entry))) (length (now (out .entry))) (length (now (orig .entry))) ⌝ }
+    ensures memory { λ r. ⌜ (now (out .exit) ≡ outAfter r (resultOf (stepsOf (readingOf mode) 0 n) (now (text .entry))) (now (out .entry)))
+        × After small r (now (a .entry)) (now (b .entry)) (now (c .entry)) (now (d .entry)) (now (e .entry)) (now (u .entry)) (now (a .exit)) (now (b .exit)) (now (c .exit)) (now (d .exit)) (now (e .exit)) (now (u .exit)) ⌝ }
+    ensures records { λ r. ⌜ now (orig .exit) ≡ outAfter r (originsOf (stepsOf (readingOf mode) 0 n) (stepsFates (readingOf mode) 0 n) (now (text .entry))) (now (orig .entry)) ⌝ }
+{
+    tidy_small(0, n, mode, text, a, b, c, d, e, u, out, orig)
+}
