@@ -74,7 +74,7 @@ fn seen_len(s: &[u8]) -> usize {
     i
 }
 
-// Writes the first character, and returns how many bytes it has.
+// Writes the first character, which is not written as it is.
 fn put_other(s: &[u8]) -> bool {
     let n = unseen_len(s);
     if n == 0 {
@@ -96,8 +96,9 @@ pub fn put_text(s: &[u8]) -> bool {
     while i < s.len() {
         let n = seen_len(&s[i..]);
         if 0 < n {
-            went = went & put::bytes(lines::cut(s, i, i + n));
-            i += n;
+            let e = put::past(i, n, s.len());
+            went = went & put::bytes(&s[i..e]);
+            i = e;
         } else {
             went = went & put_other(&s[i..]);
             i = put::past(i, other_len(&s[i..]), s.len());

@@ -84,10 +84,11 @@ fn put_raw_line(
 // Writes the raw lines.
 fn put_raw(text: &[u8], tidy: &[u8], records: &[u8], gone: &[u8], held: &[u8]) -> bool {
     let mut went = true;
+    let mut left = lines::count_lines(text);
     let mut i = 0;
     let mut p = 0;
     let mut k = 0;
-    while i < text.len() {
+    while 0 < left {
         let w = reader::record_at(Form::Ol, records, k);
         went = went
             & put_raw_line(
@@ -104,6 +105,7 @@ fn put_raw(text: &[u8], tidy: &[u8], records: &[u8], gone: &[u8], held: &[u8]) -
         }
         i = put::next_line(text, i);
         k = put::from_one(k);
+        left -= 1;
     }
     went
 }
@@ -145,12 +147,14 @@ fn put_tidy_line(n: usize, line: &[u8], records: &[u8]) -> bool {
 // Writes the tidy lines.
 fn put_tidy(tidy: &[u8], records: &[u8]) -> bool {
     let mut went = true;
+    let mut left = lines::count_lines(tidy);
     let mut i = 0;
     let mut n = 0;
-    while i < tidy.len() {
+    while 0 < left {
         went = went & put_tidy_line(n, put::whole_line(tidy, i), records);
         i = put::next_line(tidy, i);
         n = put::from_one(n);
+        left -= 1;
     }
     went
 }

@@ -77,10 +77,11 @@ pub fn stands(w: Went) -> bool {
 // Writes the raw lines, each with where it went.
 fn put_raw(text: &[u8], tidy: &[u8], records: &[u8], gone: &[u8], held: &[u8]) -> bool {
     let mut went = true;
+    let mut left = lines::count_lines(text);
     let mut i = 0;
     let mut p = 0;
     let mut k = 0;
-    while i < text.len() {
+    while 0 < left {
         let w = reader::record_at(Form::Ol, records, k);
         let line = put::line_at(text, i);
         went = went
@@ -101,6 +102,7 @@ fn put_raw(text: &[u8], tidy: &[u8], records: &[u8], gone: &[u8], held: &[u8]) -
         }
         i = put::next_line(text, i);
         k = put::from_one(k);
+        left -= 1;
     }
     went
 }
@@ -144,12 +146,14 @@ fn put_behind(n: usize, line: &[u8], records: &[u8]) -> bool {
 // Writes the tidy lines, each with the raw lines behind it.
 fn put_tidy(tidy: &[u8], records: &[u8]) -> bool {
     let mut went = true;
+    let mut left = lines::count_lines(tidy);
     let mut i = 0;
     let mut n = 0;
-    while i < tidy.len() {
+    while 0 < left {
         went = went & put_behind(n, put::whole_line(tidy, i), records);
         i = put::next_line(tidy, i);
         n = put::from_one(n);
+        left -= 1;
     }
     went
 }
