@@ -1,7 +1,7 @@
 -- Tables of moves and codes say what acts and fates say. Assumes nothing.
 use Prim.Native.Nat.{ℕ, zero, suc, _+_, _-_, _≤_, _<_}
-use mathlib.Core.Path.{_≡_, refl, ap, _∙_}
-use mathlib.Core.Bool.{Bool, true}
+use mathlib.Core.Path.{_≡_, refl, sym, ap, _∙_}
+use mathlib.Core.Bool.{Bool, true, false, cond}
 use mathlib.Core.List.{List, [], _∷_}
 use native.Mathlib.Omega.{arith}
 use borrow.Author.Tests.{ne-eqb, lt-ltb, le-ltb, ltb-true}
@@ -98,3 +98,60 @@ unfolding through codesOf follow
 through-follow [] gs u v h = refl
 through-follow (f ∷ fs) gs (cons p u) v h =
     ap (λ (c : ℕ). c ∷ through (codesOf fs) (codesOf gs)) (on-code gs f p v h) ∙ ap (λ (cs : List ℕ). codeOf (onward gs f) ∷ cs) (through-follow fs gs u v h)
+
+-- ---- codes through two tables
+
+taken-again : (c : ℕ) → takenCode (takenCode c) ≡ takenCode c
+unfolding takenCode
+taken-again c = go (ltb c half) refl
+  where
+    go : (b : Bool) → ltb c half ≡ b → cond (ltb (cond b (half + c) c) half) (half + cond b (half + c) c) (cond b (half + c) c) ≡ cond b (half + c) c
+    go true e = rw (le-ltb (half + c) half (omega arith))
+    go false e = rw e
+
+high-same : (x : ℕ) → ltb x half ≡ false → takenCode x ≡ x
+unfolding takenCode
+high-same x e = rw e
+
+pub entry-on : (xs ys : List ℕ) (i : ℕ) → onCode ys farMove ≡ farMove → getD (through xs ys) i farMove ≡ onCode ys (getD xs i farMove)
+unfolding through
+entry-on [] ys i f = sym f
+entry-on (x ∷ xs) ys zero f = refl
+entry-on (x ∷ xs) ys (suc i) f = entry-on xs ys i f
+
+pub far-on : (ys : List ℕ) → length ys < half → onCode ys farMove ≡ farMove
+unfolding onCode takenCode
+far-on ys h = rw (List·getD-eq-default ys farMove {n = farMove - half} (omega arith))
+
+taken-on-low : (ys : List ℕ) (x : ℕ) → ltb x half ≡ true → onCode ys (takenCode x) ≡ takenCode (onCode ys x)
+unfolding onCode takenCode
+taken-on-low ys x e =
+    let q : (half + x) - half ≡ x = omega arith in
+    rw (e, le-ltb (half + x) half (omega arith), q)
+
+taken-on-high : (ys : List ℕ) (x : ℕ) → ltb x half ≡ false → onCode ys (takenCode x) ≡ takenCode (onCode ys x)
+unfolding onCode
+taken-on-high ys x e = ap (onCode ys) (high-same x e) ∙ rw e (sym (taken-again (getD ys (x - half) farMove)))
+
+pub taken-on : (ys : List ℕ) (x : ℕ) → onCode ys (takenCode x) ≡ takenCode (onCode ys x)
+taken-on ys x = go (ltb x half) refl
+  where
+    go : (b : Bool) → ltb x half ≡ b → onCode ys (takenCode x) ≡ takenCode (onCode ys x)
+    go true e = taken-on-low ys x e
+    go false e = taken-on-high ys x e
+
+-- a code through both
+on-both : (xs ys : List ℕ) (c : ℕ) → length ys < half → onCode ys (onCode xs c) ≡ onCode (through xs ys) c
+unfolding onCode
+on-both xs ys c h = go (ltb c half)
+  where
+    go : (b : Bool) → onCode ys (cond b (getD xs c farMove) (takenCode (getD xs (c - half) farMove))) ≡ cond b (getD (through xs ys) c farMove) (takenCode (getD (through xs ys) (c - half) farMove))
+    go true = sym (entry-on xs ys c (far-on ys h))
+    go false = taken-on ys (getD xs (c - half) farMove) ∙ ap takenCode (sym (entry-on xs ys (c - half) (far-on ys h)))
+
+-- going on through two tables is going on through the second one's codes of the first
+pub through-both : (t xs ys : List ℕ) → length ys < half → through (through t xs) ys ≡ through t (through xs ys)
+unfolding through
+through-both [] xs ys h = refl
+through-both (c ∷ t) xs ys h =
+    ap (λ (n : ℕ). n ∷ through (through t xs) ys) (on-both xs ys c h) ∙ ap (λ (l : List ℕ). onCode (through xs ys) c ∷ l) (through-both t xs ys h)

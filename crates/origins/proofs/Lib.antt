@@ -13,4 +13,5 @@ pub mod RawLines
 pub mod Firsts
 pub mod Walks
 pub mod Thins
+pub mod Carries
 pub mod Examples

@@ -11,6 +11,7 @@ ghost use Rattle.lines.specs.Inner.Out.{Wrote};
 ghost use Rattle.origins.specs.Inner.Fates.{staying};
 ghost use Rattle.origins.specs.Form.{formShape, goneOf, sizeOf, fateByte, outLine, recordBytes, fileOf};
 ghost use Rattle.origins.specs.Inner.Codes.{half, farMove, noteOf, codesOf, takenCode, landGo, onCode, through, standing, allStay};
+ghost use Rattle.origins.specs.Inner.Carry.{gapIn, carried, kept};
 ghost use Rattle.origins.specs.Inner.Written.{saidFirst, firstIs, firstEnd, wentsBy, bareBy};
 
 // What a record says of a line: it is kept with equal bytes as an output line, kept with other bytes, its value is inside one, or it is away.
@@ -194,7 +195,7 @@ pub fn all_stay(moves: &[usize]) -> bool
 }
 
 // Fills a table with the codes of lines that all stay: 0, 1, 2, ..
-pub fn start(table: &mut [usize])
+fn start(table: &mut [usize])
     ensures { λ _. ⌜ now (table .exit) ≡ codesOf (staying (length (now (table .entry))) 0) ⌝ }
 {
     let mut i = 0;
@@ -202,6 +203,63 @@ pub fn start(table: &mut [usize])
         table[i] = i;
         i += 1;
     }
+}
+
+// Begins a table of raw moves and its index: all lines stand.
+pub fn begin(from: &mut [usize], raw: &mut [usize])
+    ensures index { λ _. ⌜ now (from .exit) ≡ codesOf (staying (length (now (from .entry))) 0) ⌝ }
+    ensures moves { λ _. ⌜ now (raw .exit) ≡ replicate (length (now (raw .entry))) 0 ⌝ }
+{
+    start(from);
+    stay(raw, 0, raw.len());
+}
+
+// How far the raw line `d` places below place `k` of an index is below the one there.
+fn gap(from: &[usize], k: usize, d: usize) -> usize
+    requires { ⌜ k < length (now from) ⌝ }
+    ensures { λ r. ⌜ r ≡ gapIn (drop k (now (from .entry))) d ⌝ }
+{
+    if d < from.len() - k {
+        let f = from[k];
+        let g = from[k + d];
+        if f < g {
+            return g - f;
+        }
+    }
+    FAR
+}
+
+// Puts the move `d` of the line at place `k` of an index into a table of raw moves.
+fn send(from: &[usize], raw: &mut [usize], k: usize, d: usize)
+    requires { ⌜ k < length (now from) ⌝ }
+    ensures { λ _. ⌜ now (raw .exit) ≡ set (now (raw .entry)) (getD (now (from .entry)) k 0) (gapIn (drop k (now (from .entry))) d) ⌝ }
+{
+    let f = from[k];
+    if f < raw.len() {
+        raw[f] = gap(from, k, d);
+    }
+}
+
+// Puts the moves of the lines of an index into a table of raw moves, leaves in the index those that still stand, and returns how many these are.
+pub fn carry(moves: &[usize], from: &mut [usize], raw: &mut [usize]) -> usize
+    requires { ⌜ length (now from) ≤ length (now moves) ⌝ }
+    ensures index { λ r. ⌜ Wrote (now (from .entry)) 0 (kept (now (from .entry)) (now (moves .entry))) (now (from .exit)) r ⌝ }
+    ensures moves { λ _. ⌜ now (raw .exit) ≡ carried (now (moves .entry)) (now (from .entry)) (now (raw .entry)) ⌝ }
+{
+    let mut q = 0;
+    let mut k = 0;
+    while k < from.len() {
+        let d = moves[k];
+        if d == 0 {
+            from[q] = from[k];
+            q += 1;
+            k += 1;
+        } else {
+            send(from, raw, k, d);
+            k += 1;
+        }
+    }
+    q
 }
 
 // Where a line of the code `c` is, when the lines there have these codes.

@@ -17,7 +17,7 @@ use Rattle.lines.proofs.OutLaws.{wrote-part}
 use Rattle.origins.specs.Inner.Fates.{Fate, at, fatesGo, fatesOf, follow, staying}
 use Rattle.origins.specs.Inner.Codes.{farMove, half, moveOf, movesOf, codesOf, takenCode, landGo, onCode, through, standing}
 use Rattle.origins.proofs.FateLaws.{outs, outs-apply, Under, fates-under, fates-length}
-use Rattle.origins.proofs.CodeLaws.{sound, land-fates, standing-outs, through-follow}
+use Rattle.origins.proofs.CodeLaws.{sound, land-fates, standing-outs, through-follow, through-both}
 use Rattle.origins.proofs.Notes.{plainly, moves-length, stay-moves}
 use Rattle.place.specs.Inner.Fill.{Filled, flagsOf}
 use Rattle.place.specs.Region.{region, regionAt}
@@ -245,61 +245,6 @@ bind-traced mode ls t {n} {r} {m₀} {m} {b} {b′} e h f w z =
     ∙ ap (λ (xs : List Act). through t (codesOf (fatesOf xs))) (bind-acts mode ls)
 
 -- ---- two stages, one after the other
-
-taken-again : (c : ℕ) → takenCode (takenCode c) ≡ takenCode c
-unfolding takenCode
-taken-again c = go (ltb c half) refl
-  where
-    go : (b : Bool) → ltb c half ≡ b → cond (ltb (cond b (half + c) c) half) (half + cond b (half + c) c) (cond b (half + c) c) ≡ cond b (half + c) c
-    go true e = rw (le-ltb (half + c) half (omega arith))
-    go false e = rw e
-
-high-same : (x : ℕ) → ltb x half ≡ false → takenCode x ≡ x
-unfolding takenCode
-high-same x e = rw e
-
-entry-on : (xs ys : List ℕ) (i : ℕ) → onCode ys farMove ≡ farMove → getD (through xs ys) i farMove ≡ onCode ys (getD xs i farMove)
-unfolding through
-entry-on [] ys i f = sym f
-entry-on (x ∷ xs) ys zero f = refl
-entry-on (x ∷ xs) ys (suc i) f = entry-on xs ys i f
-
-far-on : (ys : List ℕ) → length ys < half → onCode ys farMove ≡ farMove
-unfolding onCode takenCode
-far-on ys h = rw (List·getD-eq-default ys farMove {n = farMove - half} (omega arith))
-
-on-low : (ys : List ℕ) (x : ℕ) → ltb x half ≡ true → onCode ys (takenCode x) ≡ takenCode (onCode ys x)
-unfolding onCode takenCode
-on-low ys x e =
-    let q : (half + x) - half ≡ x = omega arith in
-    rw (e, le-ltb (half + x) half (omega arith), q)
-
-on-high : (ys : List ℕ) (x : ℕ) → ltb x half ≡ false → onCode ys (takenCode x) ≡ takenCode (onCode ys x)
-unfolding onCode
-on-high ys x e = ap (onCode ys) (high-same x e) ∙ rw e (sym (taken-again (getD ys (x - half) farMove)))
-
-taken-on : (ys : List ℕ) (x : ℕ) → onCode ys (takenCode x) ≡ takenCode (onCode ys x)
-taken-on ys x = go (ltb x half) refl
-  where
-    go : (b : Bool) → ltb x half ≡ b → onCode ys (takenCode x) ≡ takenCode (onCode ys x)
-    go true e = on-low ys x e
-    go false e = on-high ys x e
-
--- a code through both
-on-both : (xs ys : List ℕ) (c : ℕ) → length ys < half → onCode ys (onCode xs c) ≡ onCode (through xs ys) c
-unfolding onCode
-on-both xs ys c h = go (ltb c half)
-  where
-    go : (b : Bool) → onCode ys (cond b (getD xs c farMove) (takenCode (getD xs (c - half) farMove))) ≡ cond b (getD (through xs ys) c farMove) (takenCode (getD (through xs ys) (c - half) farMove))
-    go true = sym (entry-on xs ys c (far-on ys h))
-    go false = taken-on ys (getD xs (c - half) farMove) ∙ ap takenCode (sym (entry-on xs ys (c - half) (far-on ys h)))
-
--- going on through two tables is going on through the second one's codes of the first
-through-both : (t xs ys : List ℕ) → length ys < half → through (through t xs) ys ≡ through t (through xs ys)
-unfolding through
-through-both [] xs ys h = refl
-through-both (c ∷ t) xs ys h =
-    ap (λ (n : ℕ). n ∷ through (through t xs) ys) (on-both xs ys c h) ∙ ap (λ (l : List ℕ). onCode (through xs ys) c ∷ l) (through-both t xs ys h)
 
 outs-most : (acts : List Act) → outs acts ≤ length acts
 unfolding outs
