@@ -195,7 +195,7 @@ pub fn all_stay(moves: &[usize]) -> bool
 }
 
 // Fills a table with the codes of lines that all stay: 0, 1, 2, ..
-fn start(table: &mut [usize])
+pub fn start(table: &mut [usize])
     ensures { λ _. ⌜ now (table .exit) ≡ codesOf (staying (length (now (table .entry))) 0) ⌝ }
 {
     let mut i = 0;
