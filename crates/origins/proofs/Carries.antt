@@ -2,20 +2,20 @@
 use Prim.Native.Nat.{ℕ, zero, suc, _+_, _-_, _≤_, _<_}
 use mathlib.Core.Path.{_≡_, refl, sym, ap, _∙_}
 use mathlib.Core.Bool.{Bool, true, false, cond, _&&_}
-use mathlib.Core.List.{List, [], _∷_, _++_, append-assoc}
+use mathlib.Core.List.{List, [], _∷_, _++_, append-assoc, append-nil}
 use native.Mathlib.Omega.{arith}
 use native.Mathlib.Nat.{zero-add, add-zero}
 use native.Mathlib.Numerals.{add-one}
 use borrow.Author.Tests.{eq-eqb, ne-eqb, eqb-true, lt-ltb, le-ltb, ltb-true, ltb-false}
 use lib.Dec.{eqb, ltb}
 use lib.ListN.{length, take, drop, getD, set, replicate, length-append, length-set, drop-of-length-le, List·getD-eq-default}
-use lib.Seq.{drop-cons, drop-drop, drop-set-lt, getD-drop, set-at}
-use Rattle.lines.specs.Inner.Out.{Wrote}
+use lib.Seq.{drop-cons, drop-drop, drop-length, drop-set-lt, drop-at, take-at, getD-drop, set-at}
+use Rattle.lines.specs.Inner.Out.{putAt, Wrote}
 use Rattle.lines.proofs.OutLaws.{wrote-byte, Writing, writing-start, writing-as, writing-length, writing-put, writing-end}
 use Rattle.lines.proofs.Tests.{and-left, and-right}
 use Rattle.origins.specs.Inner.Fates.{staying}
 use Rattle.origins.specs.Inner.Codes.{farMove, half, codeOf, codesOf, takenCode, landGo, onCode, through, standing, allStay}
-use Rattle.origins.specs.Inner.Carry.{standingFrom, standingAt, thinned, gapIn, carried, kept}
+use Rattle.origins.specs.Inner.Carry.{standingFrom, standingAt, thinned, gapIn, carried, kept, carriedBy, keptBy, indexBy, Carried}
 use Rattle.origins.proofs.CodeLaws.{entry-on, far-on, taken-on}
 use Rattle.origins.proofs.TableLaws.{in-any, land-length, through-length}
 
@@ -298,6 +298,87 @@ kept-stay [] ns q h = refl
 kept-stay (f ∷ fs) [] q h = absurd (omega arith)
 kept-stay (f ∷ fs) (n ∷ ns) q h =
     rw (and-left (eqb n 0) (allStay (take (length fs) ns)) h) (ap (λ (l : List ℕ). f ∷ l) (kept-stay fs ns (omega arith) (and-right (eqb n 0) (allStay (take (length fs) ns)) h)))
+
+-- ---- one pass, and one after the other
+
+-- moves past the end of the index are not looked at
+carried-take : (ns fs raw : List ℕ) → carried ns fs raw ≡ carried (take (length fs) ns) fs raw
+unfolding carried
+carried-take [] [] raw = refl
+carried-take [] (f ∷ fs) raw = refl
+carried-take (n ∷ ns) [] raw = refl
+carried-take (n ∷ ns) (f ∷ fs) raw = carried-take ns fs (cond (eqb n 0) raw (set raw f (gapIn (f ∷ fs) n)))
+
+kept-take : (fs ns : List ℕ) → kept fs ns ≡ kept fs (take (length fs) ns)
+unfolding kept
+kept-take [] ns = refl
+kept-take (f ∷ fs) [] = refl
+kept-take (f ∷ fs) (n ∷ ns) = ap (λ (l : List ℕ). cond (eqb n 0) (f ∷ l) l) (kept-take fs ns)
+
+-- as many stand as the moves say
+pub kept-standing : (fs ns : List ℕ) → length fs ≡ length ns → length (kept fs ns) ≡ standing ns
+unfolding kept standing
+kept-standing [] [] h = refl
+kept-standing [] (n ∷ ns) h = absurd (omega arith)
+kept-standing (f ∷ fs) [] h = absurd (omega arith)
+kept-standing (f ∷ fs) (n ∷ ns) h = go (eqb n 0) (kept-standing fs ns (omega arith))
+  where
+    go : (b : Bool) → length (kept fs ns) ≡ standing ns → length (cond b (f ∷ kept fs ns) (kept fs ns)) ≡ cond b (suc (standing ns)) (standing ns)
+    go true e = ap suc e
+    go false e = e
+
+pub round-stays : (fs ns raw : List ℕ) → length fs ≤ length ns → allStay (take (length fs) ns) ≡ true → Carried (take (length fs) ns ∷ []) fs raw fs raw (length fs)
+unfolding keptBy indexBy carriedBy
+round-stays fs ns raw q h =
+    let e : kept fs (take (length fs) ns) ≡ fs = sym (kept-take fs ns) ∙ kept-stay fs ns q h in
+    record {
+      many = ap length (sym e);
+      index = sym (ap (λ (l : List ℕ). l ++ drop (length l) fs) e ∙ ap (λ (l : List ℕ). fs ++ l) (drop-length fs) ∙ append-nil fs);
+      moves = sym (sym (carried-take ns fs raw) ∙ carried-stay ns fs raw h);
+    }
+
+pub round-carried : (ns : List ℕ) {fs raw fs′ raw′ : List ℕ} {r : ℕ} → Wrote fs 0 (kept fs ns) fs′ r → raw′ ≡ carried ns fs raw → Carried (take (length fs) ns ∷ []) fs raw fs′ raw′ r
+unfolding keptBy indexBy carriedBy putAt
+round-carried ns {fs} {raw} w z =
+    let e : kept fs ns ≡ kept fs (take (length fs) ns) = kept-take fs ns in
+    record {
+      many = w .place ∙ zero-add (length (kept fs ns)) ∙ ap length e;
+      index = w .holds ∙ ap (λ (n : ℕ). kept fs ns ++ drop n fs) (zero-add (length (kept fs ns))) ∙ ap (λ (l : List ℕ). l ++ drop (length l) fs) e;
+      moves = z ∙ carried-take ns fs raw;
+    }
+
+module _ {a fs raw fs₁ raw₁ : List ℕ} {s : ℕ} (h : Carried (a ∷ []) fs raw fs₁ raw₁ s) where
+  round-many : s ≡ length (kept fs a)
+  unfolding keptBy
+  round-many = h .many
+
+  pub round-index : take s fs₁ ≡ kept fs a
+  unfolding indexBy
+  round-index = ap (take s) (h .index) ∙ take-at (kept fs a) (drop (length (kept fs a)) fs) s (sym round-many)
+
+  round-left : drop s fs₁ ≡ drop (length (kept fs a)) fs
+  unfolding indexBy
+  round-left = ap (drop s) (h .index) ∙ drop-at (kept fs a) (drop (length (kept fs a)) fs) s (sym round-many)
+
+  -- another one over the lines that stand
+  pub rounds-then : {b fs₂ raw₂ : List ℕ} {n : ℕ} → Carried (b ∷ []) (take s fs₁) raw₁ fs₂ raw₂ n → Carried (a ∷ b ∷ []) fs raw (fs₂ ++ drop s fs₁) raw₂ n
+  unfolding keptBy indexBy carriedBy
+  rounds-then {b} {fs₂} {raw₂} k = record {
+    many = k .many ∙ ap (λ (l : List ℕ). length (kept l b)) round-index;
+    index =
+        ap (λ (l : List ℕ). l ++ drop s fs₁) (k .index)
+        ∙ ap (λ (l : List ℕ). (kept l b ++ drop (length (kept l b)) l) ++ drop s fs₁) round-index
+        ∙ ap (λ (l : List ℕ). (kept (kept fs a) b ++ drop (length (kept (kept fs a) b)) (kept fs a)) ++ l) round-left;
+    moves = k .moves ∙ ap (λ (l : List ℕ). carried b l raw₁) round-index ∙ ap (carried b (kept fs a)) (h .moves);
+  }
+
+  -- by an index of the lines that stand it comes to raw moves after the pass
+  pub round-thinned : fs ≡ standingAt raw → raw₁ ≡ thinned raw a
+  unfolding carriedBy
+  round-thinned e = h .moves ∙ ap (λ (l : List ℕ). carried a l raw) e ∙ carried-thinned raw a
+
+  pub round-stands : fs ≡ standingAt raw → standing raw ≡ length a → take s fs₁ ≡ standingAt raw₁
+  round-stands e c = round-index ∙ ap (λ (l : List ℕ). kept l a) e ∙ sym (thinned-kept raw a 0 c) ∙ ap standingAt (sym (round-thinned e))
 
 -- the index of lines that all stand
 pub stay-index : (n i : ℕ) → standingFrom (replicate n 0) i ≡ codesOf (staying n i)

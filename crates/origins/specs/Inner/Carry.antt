@@ -1,8 +1,9 @@
 -- The moves of one pass after another in one table of raw moves, and an index of the raw lines that stand. Assumes nothing.
 use Prim.Native.Nat.{ℕ, suc, _-_}
+use mathlib.Core.Path.{_≡_}
 use mathlib.Core.Bool.{cond}
-use mathlib.Core.List.{List, [], _∷_}
-use lib.ListN.{getD, set}
+use mathlib.Core.List.{List, [], _∷_, _++_}
+use lib.ListN.{length, drop, getD, set}
 use lib.Dec.{eqb, ltb}
 use Rattle.origins.specs.Inner.Codes.{farMove}
 
@@ -39,3 +40,27 @@ unfoldable pub kept : List ℕ → List ℕ → List ℕ
 kept [] ns = []
 kept (f ∷ fs) [] = []
 kept (f ∷ fs) (n ∷ ns) = cond (eqb n 0) (f ∷ kept fs ns) (kept fs ns)
+
+-- ---- the moves of one pass after another, the last for the lines that stand after those before it
+
+unfoldable pub carriedBy : List (List ℕ) → List ℕ → List ℕ → List ℕ
+unfolding carried kept
+carriedBy [] fs raw = raw
+carriedBy (ns ∷ more) fs raw = carriedBy more (kept fs ns) (carried ns fs raw)
+
+unfoldable pub keptBy : List (List ℕ) → List ℕ → List ℕ
+unfolding kept
+keptBy [] fs = fs
+keptBy (ns ∷ more) fs = keptBy more (kept fs ns)
+
+-- a table that had the index: those that still stand are at its front, and behind them is what was left of each index before
+unfoldable pub indexBy : List (List ℕ) → List ℕ → List ℕ
+unfolding kept
+indexBy [] fs = fs
+indexBy (ns ∷ more) fs = indexBy more (kept fs ns) ++ drop (length (kept fs ns)) fs
+
+-- the tables after passes with these moves, where n lines still stand
+pub record Carried (passes : List (List ℕ)) (fs raw fs′ raw′ : List ℕ) (n : ℕ) : Type 0 where
+  pub many : n ≡ length (keptBy passes fs)
+  pub index : fs′ ≡ indexBy passes fs
+  pub moves : raw′ ≡ carriedBy passes fs raw
