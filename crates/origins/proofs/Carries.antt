@@ -372,13 +372,51 @@ module _ {a fs raw fs₁ raw₁ : List ℕ} {s : ℕ} (h : Carried (a ∷ []) fs
     moves = k .moves ∙ ap (λ (l : List ℕ). carried b l raw₁) round-index ∙ ap (carried b (kept fs a)) (h .moves);
   }
 
-  -- by an index of the lines that stand it comes to raw moves after the pass
-  pub round-thinned : fs ≡ standingAt raw → raw₁ ≡ thinned raw a
-  unfolding carriedBy
-  round-thinned e = h .moves ∙ ap (λ (l : List ℕ). carried a l raw) e ∙ carried-thinned raw a
+-- ---- by an index of the lines that stand: where lines go by passes one after the other
 
-  pub round-stands : fs ≡ standingAt raw → standing raw ≡ length a → take s fs₁ ≡ standingAt raw₁
-  round-stands e c = round-index ∙ ap (λ (l : List ℕ). kept l a) e ∙ sym (thinned-kept raw a 0 c) ∙ ap standingAt (sym (round-thinned e))
+-- each pass has a move for each line that stands before it
+pub data Fits : ℕ → List (List ℕ) → Type 0 where
+  none : {n : ℕ} → Fits n []
+  more : {n : ℕ} {a : List ℕ} {ps : List (List ℕ)} → n ≡ length a → Fits (standing a) ps → Fits n (a ∷ ps)
+
+-- codes taken on through those of each pass
+unfoldable pub landBy : List (List ℕ) → List ℕ → List ℕ
+landBy [] gs = gs
+landBy (a ∷ ps) gs = landBy ps (through gs (landGo a 0))
+
+module _ (a : List ℕ) {fs raw : List ℕ} (e : fs ≡ standingAt raw) (c : standing raw ≡ length a) where
+  one-thinned : carried a fs raw ≡ thinned raw a
+  one-thinned = ap (λ (l : List ℕ). carried a l raw) e ∙ carried-thinned raw a
+
+  one-index : kept fs a ≡ standingAt (carried a fs raw)
+  one-index = ap (λ (l : List ℕ). kept l a) e ∙ sym (thinned-kept raw a 0 c) ∙ ap standingAt (sym one-thinned)
+
+  one-stands : standing (carried a fs raw) ≡ standing a
+  one-stands = sym (standing-many (carried a fs raw) 0) ∙ ap length (sym one-index) ∙ kept-standing fs a (ap length e ∙ standing-many raw 0 ∙ c)
+
+  one-lands : length raw < half → landGo (carried a fs raw) 0 ≡ through (landGo raw 0) (landGo a 0)
+  one-lands h = ap (λ (l : List ℕ). landGo l 0) one-thinned ∙ thinned-land raw a c h
+
+  one-length : length (carried a fs raw) ≡ length raw
+  one-length = ap length one-thinned ∙ thinned-length raw a
+
+-- the index is still one of the lines that stand
+pub passes-index : (ps : List (List ℕ)) {fs raw : List ℕ} → fs ≡ standingAt raw → Fits (standing raw) ps → keptBy ps fs ≡ standingAt (carriedBy ps fs raw)
+unfolding keptBy carriedBy
+passes-index [] e none = e
+passes-index (a ∷ ps) e (more c f) = passes-index ps (one-index a e c) (rw (one-stands a e c) f)
+
+-- and the lines go where the passes lead
+pub passes-land : (ps : List (List ℕ)) {fs raw : List ℕ} → fs ≡ standingAt raw → Fits (standing raw) ps → length raw < half → landGo (carriedBy ps fs raw) 0 ≡ landBy ps (landGo raw 0)
+unfolding carriedBy landBy
+passes-land [] e none h = refl
+passes-land (a ∷ ps) e (more c f) h =
+    passes-land ps (one-index a e c) (rw (one-stands a e c) f) (omega (arith, one-length a e c, h)) ∙ ap (landBy ps) (one-lands a e c h)
+
+pub passes-length : (ps : List (List ℕ)) {fs raw : List ℕ} → fs ≡ standingAt raw → Fits (standing raw) ps → length (carriedBy ps fs raw) ≡ length raw
+unfolding carriedBy
+passes-length [] e none = refl
+passes-length (a ∷ ps) e (more c f) = passes-length ps (one-index a e c) (rw (one-stands a e c) f) ∙ one-length a e c
 
 -- the index of lines that all stand
 pub stay-index : (n i : ℕ) → standingFrom (replicate n 0) i ≡ codesOf (staying n i)
