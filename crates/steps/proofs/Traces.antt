@@ -1,10 +1,10 @@
--- Laws of the table of origins: where each line goes in a step, by the tables of moves that the passes hand out. Assumes nothing.
+-- Laws of the tables of origins: what a step puts into them, by the tables of moves that the passes hand out. Assumes nothing.
 use Prim.Native.Nat.{ℕ, zero, suc, _+_, _-_, _≤_, _<_}
 use mathlib.Core.Path.{_≡_, refl, sym, ap, _∙_}
 use mathlib.Core.Bool.{Bool, true, false, cond, _&&_}
-use mathlib.Core.List.{List, [], _∷_}
+use mathlib.Core.List.{List, [], _∷_, _++_}
 use native.Mathlib.Omega.{arith}
-use borrow.Author.Tests.{eq-eqb, ne-eqb, le-ltb}
+use borrow.Author.Tests.{eq-eqb, ne-eqb}
 use lib.Dec.{eqb, ltb}
 use lib.ListN.{length, take, drop, getD, replicate, length-take, length-replicate, length-append, List·getD-eq-default}
 use Rattle.lines.specs.Lf.{all, partsOf, linesOf, unlines}
@@ -15,9 +15,11 @@ use Rattle.lines.proofs.Tests.{no, and-both}
 use Rattle.lines.proofs.ActLaws.{keeps, apply-length}
 use Rattle.lines.proofs.OutLaws.{wrote-part}
 use Rattle.origins.specs.Inner.Fates.{Fate, at, fatesGo, fatesOf, follow, staying}
-use Rattle.origins.specs.Inner.Codes.{farMove, half, moveOf, movesOf, codesOf, takenCode, landGo, onCode, through, standing}
-use Rattle.origins.proofs.FateLaws.{outs, outs-apply, Under, fates-under, fates-length}
-use Rattle.origins.proofs.CodeLaws.{sound, land-fates, standing-outs, through-follow, through-both}
+use Rattle.origins.specs.Inner.Codes.{half, moveOf, movesOf}
+use Rattle.origins.specs.Inner.Carry.{keptBy, Carried}
+use Rattle.origins.proofs.Carries.{kept-standing, round-index, rounds-then}
+use Rattle.origins.proofs.FateLaws.{outs-apply}
+use Rattle.origins.proofs.CodeLaws.{sound, standing-outs}
 use Rattle.origins.proofs.Notes.{plainly, moves-length, stay-moves}
 use Rattle.place.specs.Inner.Fill.{Filled, flagsOf}
 use Rattle.place.specs.Region.{region, regionAt}
@@ -49,7 +51,7 @@ use Rattle.bind.proofs.Moves as bind-laws
 use Rattle.limits.specs.declared.Limits.{Limits}
 use Rattle.steps.specs.Step.{stepFates}
 use Rattle.steps.specs.Inner.Bounds.{Bounded}
-use Rattle.steps.specs.Inner.Few.{fewActs}
+use Rattle.steps.specs.Inner.Few.{fewActs, stepMoves}
 use Rattle.steps.proofs.Tame.{room-lines}
 
 -- ---- no pass takes a line into itself
@@ -214,66 +216,53 @@ pub bind-acts : (mode : ℕ) (ls : List (List ℕ)) → bindDeclaratorsActs plai
 unfolding bindDeclaratorsActs
 bind-acts mode ls = refl
 
--- ---- a table of moves leads where the acts lead
+-- ---- the moves that a pass hands out, at the front of a table
 
--- n lines with the acts are at the front of a table of moves
-landed : (acts : List Act) (n : ℕ) (m : List ℕ) → take n m ≡ movesOf acts → all sound acts ≡ true → n < half → landGo (take n m) 0 ≡ codesOf (fatesOf acts)
-unfolding fatesOf
-landed acts n m e s h = ap (λ (l : List ℕ). landGo l 0) e ∙ land-fates acts 0 s (omega (arith, moves-length acts, ap length e, length-take n m))
+module _ (R : Reading) (k : ℕ) (ls : List (List ℕ)) where
+  pub moves-2 : k ≡ 2 → stepMoves R k ls ≡ movesOf (onceActs R ls) ∷ movesOf (pruneDeclsActs (apply (onceActs R ls) ls)) ∷ []
+  unfolding stepMoves
+  moves-2 e = rw e
 
--- the table of origins after them
-pub traced : (acts : List Act) (n : ℕ) (m t : List ℕ) {t′ : List ℕ} → take n m ≡ movesOf acts → all sound acts ≡ true → n < half → t′ ≡ through t (landGo (take n m) 0) → t′ ≡ through t (codesOf (fatesOf acts))
-traced acts n m t e s h z = z ∙ ap (through t) (landed acts n m e s h)
+  pub moves-4 : k ≡ 4 → stepMoves R k ls ≡ movesOf (rebuildCallsActs (leavesOf R) ls) ∷ []
+  unfolding stepMoves
+  moves-4 e = rw e
 
-pub few-traced : (R : Reading) (k : ℕ) (ls : List (List ℕ)) (t : List ℕ) {n : ℕ} {m₀ m t′ : List ℕ} → (k ≡ 2 → ⊥) → (k ≡ 4 → ⊥) → (k ≡ 6 → ⊥) → n ≡ length ls → n < half →
-    Wrote m₀ 0 (movesOf (fewActs R k ls)) m (length ls) → t′ ≡ through t (landGo (take n m) 0) → t′ ≡ through t (codesOf (stepFates R k ls))
-few-traced R k ls t {n} {m₀} {m} n2 n4 n6 e h w z =
-    traced (fewActs R k ls) n m t (ap (λ (j : ℕ). take j m) e ∙ wrote-part w) (few-down R k ls) h z ∙ ap (λ (fs : List Fate). through t (codesOf fs)) (fates-few R k ls n2 n4 n6)
+  pub moves-6 : k ≡ 6 → stepMoves R k ls ≡ movesOf (bindDeclaratorsActs R ls) ∷ []
+  unfolding stepMoves
+  moves-6 e = rw e
 
-pub calls-traced : (mode : ℕ) (ls : List (List ℕ)) (t : List ℕ) {n : ℕ} {m₀ m t′ : List ℕ} → n ≡ length ls → n < half → Filled m₀ (ownersOf (rebuildCallsActs (leavesOf plain) ls)) m (length ls) →
-    t′ ≡ through t (landGo (take n m) 0) → t′ ≡ through t (codesOf (fatesOf (rebuildCallsActs (leavesOf (readingOf mode)) ls)))
-calls-traced mode ls t {n} {m₀} {m} e h f z =
-    traced (rebuildCallsActs (leavesOf plain) ls) n m t (ap (λ (j : ℕ). take j m) e ∙ filled-take f ∙ sym (calls-moves (leavesOf plain) ls)) (calls-down (leavesOf plain) ls) h z
-    ∙ ap (λ (xs : List Act). through t (codesOf (fatesOf xs))) (calls-acts mode ls)
+  moves-few : (k ≡ 2 → ⊥) → (k ≡ 4 → ⊥) → (k ≡ 6 → ⊥) → stepMoves R k ls ≡ movesOf (fewActs R k ls) ∷ []
+  unfolding stepMoves
+  moves-few a b c = rw (ne-eqb k 2 a, ne-eqb k 4 b, ne-eqb k 6 c)
 
-pub bind-traced : (mode : ℕ) (ls : List (List ℕ)) (t : List ℕ) {n r : ℕ} {m₀ m b b′ t′ : List ℕ} → n ≡ length ls → n < half → Filled m₀ (bindNotes plain ls) m (length ls) → Wrote b 0 (noteMoves (take n m)) b′ r →
-    t′ ≡ through t (landGo (take n b′) 0) → t′ ≡ through t (codesOf (fatesOf (bindDeclaratorsActs (readingOf mode) ls)))
-bind-traced mode ls t {n} {r} {m₀} {m} {b} {b′} e h f w z =
-    let q : take n m ≡ bindNotes plain ls = ap (λ (j : ℕ). take j m) e ∙ filled-take f in
-    let c : r ≡ n = omega (arith, w .place, bind-laws.moves-many (take n m), ap length q, f .place, e) in
-    traced (bindDeclaratorsActs plain ls) n b′ t (ap (λ (j : ℕ). take j b′) (sym c) ∙ wrote-part w ∙ ap noteMoves q ∙ sym (bind-laws.bind-moves plain ls)) (bind-down plain ls) h z
-    ∙ ap (λ (xs : List Act). through t (codesOf (fatesOf xs))) (bind-acts mode ls)
+-- the tables after the same moves under another name
+pub carried-as : {fs raw fs′ raw′ : List ℕ} {r : ℕ} {xs ys : List (List ℕ)} → xs ≡ ys → Carried xs fs raw fs′ raw′ r → Carried ys fs raw fs′ raw′ r
+carried-as e z = rw (← e) z
 
--- ---- two stages, one after the other
+pub few-traced : (R : Reading) (k : ℕ) (ls : List (List ℕ)) {m₀ m fs raw fs′ raw′ : List ℕ} {r : ℕ} → (k ≡ 2 → ⊥) → (k ≡ 4 → ⊥) → (k ≡ 6 → ⊥) → length fs ≡ length ls →
+    Wrote m₀ 0 (movesOf (fewActs R k ls)) m (length ls) → Carried (take (length fs) m ∷ []) fs raw fs′ raw′ r → Carried (stepMoves R k ls) fs raw fs′ raw′ r
+few-traced R k ls {m₀} {m} n2 n4 n6 e w z =
+    carried-as (ap (λ (l : List ℕ). l ∷ []) (ap (λ (j : ℕ). take j m) e ∙ wrote-part w) ∙ sym (moves-few R k ls n2 n4 n6)) z
 
-outs-most : (acts : List Act) → outs acts ≤ length acts
-unfolding outs
-outs-most [] = omega arith
-outs-most (keep ∷ more) = let h = outs-most more in omega arith
-outs-most (become x ∷ more) = let h = outs-most more in omega arith
-outs-most (into n ∷ more) = let h = outs-most more in omega arith
-outs-most (gone ∷ more) = let h = outs-most more in omega arith
+pub calls-traced : (mode : ℕ) (ls : List (List ℕ)) {m₀ m fs raw fs′ raw′ : List ℕ} {r : ℕ} → length fs ≡ length ls → Filled m₀ (ownersOf (rebuildCallsActs (leavesOf plain) ls)) m (length ls) →
+    Carried (take (length fs) m ∷ []) fs raw fs′ raw′ r → Carried (movesOf (rebuildCallsActs (leavesOf (readingOf mode)) ls) ∷ []) fs raw fs′ raw′ r
+calls-traced mode ls {m₀} {m} e f z =
+    carried-as (ap (λ (l : List ℕ). l ∷ []) (ap (λ (j : ℕ). take j m) e ∙ filled-take f ∙ sym (calls-moves (leavesOf plain) ls) ∙ ap movesOf (calls-acts mode ls))) z
 
--- no fate names a line that has no code
-pub acts-under : (acts : List Act) → length acts < half → Under half (fatesOf acts)
-unfolding fatesOf
-acts-under acts h = fates-under acts 0 half (omega (arith, outs-most acts))
+pub bind-traced : (mode : ℕ) (ls : List (List ℕ)) {q : ℕ} {m₀ m b b′ fs raw fs′ raw′ : List ℕ} {r : ℕ} → length fs ≡ length ls → Filled m₀ (bindNotes plain ls) m (length ls) →
+    Wrote b 0 (noteMoves (take (length fs) m)) b′ q → Carried (take (length fs) b′ ∷ []) fs raw fs′ raw′ r → Carried (movesOf (bindDeclaratorsActs (readingOf mode) ls) ∷ []) fs raw fs′ raw′ r
+bind-traced mode ls {q} {m₀} {m} {b} {b′} {fs} e f w z =
+    let n : ℕ = length fs in
+    let g : take n m ≡ bindNotes plain ls = ap (λ (j : ℕ). take j m) e ∙ filled-take f in
+    let c : q ≡ n = omega (arith, w .place, bind-laws.moves-many (take n m), ap length g, f .place, e) in
+    carried-as
+    (ap (λ (l : List ℕ). l ∷ []) (ap (λ (j : ℕ). take j b′) (sym c) ∙ wrote-part w ∙ ap noteMoves g ∙ sym (bind-laws.bind-moves plain ls) ∙ ap movesOf (bind-acts mode ls)))
+    z
 
-fates-many : (acts : List Act) → length (fatesOf acts) ≡ length acts
-unfolding fatesOf
-fates-many acts = fates-length acts 0
-
-codes-many : (fs : List Fate) → length (codesOf fs) ≡ length fs
-unfolding codesOf
-codes-many [] = refl
-codes-many (f ∷ fs) = ap suc (codes-many fs)
-
--- the fates of two lists of acts, the second for the lines that the first makes
-pub both-traced : (xs ys : List Act) (t : List ℕ) {t′ t″ : List ℕ} → length xs < half → length ys < half → t′ ≡ through t (codesOf (fatesOf xs)) → t″ ≡ through t′ (codesOf (fatesOf ys)) → t″ ≡ through t (codesOf (follow (fatesOf xs) (fatesOf ys)))
-both-traced xs ys t h k p q =
-    q ∙ ap (λ (l : List ℕ). through l (codesOf (fatesOf ys))) p
-    ∙ through-both t (codesOf (fatesOf xs)) (codesOf (fatesOf ys)) (omega (arith, codes-many (fatesOf ys), fates-many ys))
-    ∙ ap (through t) (through-follow (fatesOf xs) (fatesOf ys) (acts-under xs h) (acts-under ys k) (omega (arith, fates-many ys)))
+-- a pass leaves no more lines in the index than there were
+pub round-room : {a fs raw fs₁ raw₁ : List ℕ} {s : ℕ} → Carried (a ∷ []) fs raw fs₁ raw₁ s → s ≤ length fs₁
+unfolding keptBy
+round-room {fs₁ = fs₁} {s = s} z = omega (arith, z .many, ap length (round-index z), length-take s fs₁)
 
 -- ---- pass 2: its own acts, then those of declarations
 
@@ -283,27 +272,30 @@ marks-many R ls = ap length (sym (marks-of R ls)) ∙ marks-length R ls (tops (b
 pub once-many : (R : Reading) (ls : List (List ℕ)) → length (onceActs R ls) ≡ length ls
 once-many R ls = sym (moves-length (onceActs R ls)) ∙ ap length (once-laws.once-moves R ls) ∙ once-laws.moves-many (onceMarks R ls) ∙ marks-many R ls
 
-module _ (R : Reading) (ls : List (List ℕ)) {n r : ℕ} {m₀ m b b′ : List ℕ} (e : n ≡ length ls) (h : n < half) (f : Filled m₀ (onceMarks R ls) m (length (onceMarks R ls))) (w : Wrote b 0 (moveMarks (take n m)) b′ r) where
-  once-front : take n b′ ≡ movesOf (onceActs R ls)
+module _ (R : Reading) (ls : List (List ℕ)) {r s : ℕ} {m₀ m b b′ fs raw fs₁ raw₁ : List ℕ} (e : length fs ≡ length ls) (f : Filled m₀ (onceMarks R ls) m (length (onceMarks R ls)))
+    (w : Wrote b 0 (moveMarks (take (length fs) m)) b′ r) (z : Carried (take (length fs) b′ ∷ []) fs raw fs₁ raw₁ s) where
+  once-front : take (length fs) b′ ≡ movesOf (onceActs R ls)
   once-front =
+      let n : ℕ = length fs in
       let c : n ≡ length (onceMarks R ls) = omega (arith, e, marks-many R ls) in
       let q : take n m ≡ onceMarks R ls = ap (λ (j : ℕ). take j m) c ∙ filled-take f in
       let d : n ≡ r = omega (arith, w .place, once-laws.moves-many (take n m), ap length q, c) in
       ap (λ (j : ℕ). take j b′) d ∙ wrote-part w ∙ ap moveMarks q ∙ sym (once-laws.once-moves R ls)
 
-  -- as many lines stand as come out
-  pub once-stands : {s : ℕ} → s ≡ standing (take n b′) → s ≡ length (apply (onceActs R ls) ls)
-  once-stands z = z ∙ ap standing once-front ∙ standing-outs (onceActs R ls) (once-laws.once-sound R ls .0) ∙ sym (outs-apply (onceActs R ls) ls (once-many R ls))
+  once-first : Carried (movesOf (onceActs R ls) ∷ []) fs raw fs₁ raw₁ s
+  once-first = carried-as (ap (λ (l : List ℕ). l ∷ []) once-front) z
 
-  pub once-traced : (t : List ℕ) {s : ℕ} {p p′ t′ t″ : List ℕ} → s ≡ standing (take n b′) → Wrote p 0 (movesOf (pruneDeclsActs (apply (onceActs R ls) ls))) p′ (length (apply (onceActs R ls) ls)) →
-      t′ ≡ through t (landGo (take n b′) 0) → t″ ≡ through t′ (landGo (take s p′) 0) → t″ ≡ through t (codesOf (follow (fatesOf (onceActs R ls)) (fatesOf (pruneDeclsActs (apply (onceActs R ls) ls)))))
-  once-traced t {s} {p} {p′} {t′} {t″} a v y z =
-      let ms : List (List ℕ) = apply (onceActs R ls) ls in
-      let k : length ms ≤ length ls = apply-length (onceActs R ls) ls in
-      let c : length (pruneDeclsActs ms) ≡ length ms = acts-length ms in
-      both-traced (onceActs R ls) (pruneDeclsActs ms) t (omega (arith, once-many R ls, e, h)) (omega (arith, c, k, e, h))
-      (traced (onceActs R ls) n b′ t once-front (once-laws.once-sound R ls .0) h y)
-      (traced (pruneDeclsActs ms) s p′ t′ (ap (λ (j : ℕ). take j p′) (once-stands a) ∙ wrote-part v) (decls-down ms) (omega (arith, once-stands a, k, e, h)) z)
+  -- as many lines stand as come out
+  pub once-stands : length (take s fs₁) ≡ length (apply (onceActs R ls) ls)
+  once-stands =
+      ap length (round-index once-first)
+      ∙ kept-standing fs (movesOf (onceActs R ls)) (e ∙ sym (once-many R ls) ∙ sym (moves-length (onceActs R ls)))
+      ∙ standing-outs (onceActs R ls) (once-laws.once-sound R ls .0) ∙ sym (outs-apply (onceActs R ls) ls (once-many R ls))
+
+  pub once-traced : {t : ℕ} {p p′ fs₂ raw₂ : List ℕ} → Wrote p 0 (movesOf (pruneDeclsActs (apply (onceActs R ls) ls))) p′ (length (apply (onceActs R ls) ls)) →
+      Carried (take (length (take s fs₁)) p′ ∷ []) (take s fs₁) raw₁ fs₂ raw₂ t →
+      Carried (movesOf (onceActs R ls) ∷ movesOf (pruneDeclsActs (apply (onceActs R ls) ls)) ∷ []) fs raw (fs₂ ++ drop s fs₁) raw₂ t
+  once-traced {p′ = p′} v k = rounds-then once-first (carried-as (ap (λ (l : List ℕ). l ∷ []) (ap (λ (j : ℕ). take j p′) once-stands ∙ wrote-part v)) k)
 
 -- ---- a text within bounds has few lines
 

@@ -1,12 +1,13 @@
 // The passes by number: the work buffers and tables are split among the tables and the scratch that each asks for.
 ghost use mathlib.Core.Path.{_≡_};
 ghost use Prim.Native.Nat.{_≤_, _<_, _^_};
+ghost use mathlib.Core.List.{[], _∷_};
 ghost use lib.ListN.{length, take, replicate};
 ghost use Rattle.lines.specs.Lf.{linesOf, unlines};
 ghost use Rattle.lines.specs.Inner.Out.{Wrote};
 ghost use Rattle.lines.specs.Acts.{apply};
-ghost use Rattle.origins.specs.Inner.Fates.{fatesOf, follow};
-ghost use Rattle.origins.specs.Inner.Codes.{movesOf, codesOf, landGo, through, standing};
+ghost use Rattle.origins.specs.Inner.Codes.{movesOf};
+ghost use Rattle.origins.specs.Inner.Carry.{Carried};
 ghost use Rattle.reading.specs.Reading.{readingOf};
 ghost use Rattle.temps.specs.Temps.{pruneDeadTempsActs, pruneDeadTemps};
 ghost use Rattle.once.specs.Once.{onceActs, optimizeOnce};
@@ -17,21 +18,30 @@ ghost use Rattle.calls.specs.LeavesOf.{leavesOf};
 ghost use Rattle.calls.specs.Calls.{rebuildCallsActs, rebuildCalls};
 ghost use Rattle.bind.specs.Bind.{bindDeclaratorsActs, bindDeclarators};
 ghost use Rattle.limits.specs.Entry.{byteSize, blockSize};
-ghost use Rattle.steps.specs.Step.{stepOf, stepFates};
+ghost use Rattle.steps.specs.Step.{stepOf};
 ghost use Rattle.steps.specs.Inner.Bounds.{Bounded, Sized, Tabled};
 ghost use Rattle.steps.specs.Inner.Left.{leftC, leftD, leftE, leftU, Left, cleared, usesT, Cleared, Few};
-ghost use Rattle.steps.specs.Inner.Few.{fewActs};
+ghost use Rattle.steps.specs.Inner.Few.{fewActs, stepMoves};
 use limits::Task;
 
-// Takes a table of origins on through the moves of `n` lines, makes the table of moves 0, and returns how many of the lines stand.
-fn trace(n: usize, moves: &mut [usize], table: &mut [usize]) -> usize
-    requires { ⌜ n ≤ length (now moves) ⌝ }
-    ensures answer { λ r. ⌜ r ≡ standing (take n (now (moves .entry))) ⌝ }
+// How long what a step wrote is, and how many of its lines stand in it.
+pub struct Stepped {
+    pub size: usize,
+    pub lines: usize,
+}
+
+// Puts the moves of the lines of an index into a table of raw moves, makes the table of moves 0, and returns how many of the lines still stand.
+fn trace(moves: &mut [usize], from: &mut [usize], raw: &mut [usize]) -> usize
+    requires { ⌜ length (now from) ≤ length (now moves) ⌝ }
     ensures memory { λ _. ⌜ now (moves .exit) ≡ replicate (length (now (moves .entry))) 0 ⌝ }
-    ensures origins { λ _. ⌜ now (table .exit) ≡ through (now (table .entry)) (landGo (take n (now (moves .entry))) 0) ⌝ }
+    ensures origins { λ r. ⌜ Carried (take (length (now (from .entry))) (now (moves .entry)) ∷ []) (now (from .entry)) (now (raw .entry)) (now (from .exit)) (now (raw .exit)) r ⌝ }
 {
-    let s = origins::land(&mut moves[..n]);
-    origins::follow(table, &moves[..n]);
+    let n = from.len();
+    if origins::all_stay(&moves[..n]) {
+        slots::wipe(moves);
+        return n;
+    }
+    let s = origins::carry(moves, from, raw);
     slots::wipe(moves);
     s
 }
@@ -56,7 +66,7 @@ fn temps_step(
     temps::prune_dead_temps(m.mode, src, own, declared, read, scratch, dst, moves)
 }
 
-// Runs optimize_once, takes the table of origins on through its moves, and makes its tables over lines 0.
+// Runs optimize_once, puts its moves into the table of raw moves, and makes its tables over lines 0.
 fn once_step(
     m: Task,
     src: &[u8],
@@ -75,13 +85,14 @@ fn once_step(
     seen: &mut [usize],
     moves: &mut [usize],
     dst: &mut [u8],
-    table: &mut [usize],
-) -> usize
-    requires { ⌜ Bounded (m .limits) (now src) × (((byteSize (m .limits) ≤ length (now scratch)) × ((byteSize (m .limits) ≤ length (now mid)) × (byteSize (m .limits) ≤ length (now dst)))) × (((blockSize (m .limits) ≤ length (now up)) × (length (now up) < 2 ^ 32)) × ((((m .limits .lines) ≤ length (now loops)) × (((m .limits .lines) ≤ length (now marks)) × (((m .limits .lines) ≤ length (now paths)) × ((m .limits .lines) ≤ length (now moves))))) × ((length (now far) ≡ length (now near)) × (length (now far) ≡ length (now stores)))))) ⌝ }
-    ensures answer { λ r. ⌜ Wrote (now (dst .entry)) 0 (unlines (optimizeOnce (readingOf (m .mode .0)) (linesOf (now (src .entry))))) (now (dst .exit)) r ⌝ }
+    from: &mut [usize],
+    raw: &mut [usize],
+) -> Stepped
+    requires { ⌜ (length (now from) ≡ length (linesOf (now src))) × (Bounded (m .limits) (now src) × (((byteSize (m .limits) ≤ length (now scratch)) × ((byteSize (m .limits) ≤ length (now mid)) × (byteSize (m .limits) ≤ length (now dst)))) × (((blockSize (m .limits) ≤ length (now up)) × (length (now up) < 2 ^ 32)) × ((((m .limits .lines) ≤ length (now loops)) × (((m .limits .lines) ≤ length (now marks)) × (((m .limits .lines) ≤ length (now paths)) × ((m .limits .lines) ≤ length (now moves))))) × ((length (now far) ≡ length (now near)) × (length (now far) ≡ length (now stores))))))) ⌝ }
+    ensures answer { λ r. ⌜ Wrote (now (dst .entry)) 0 (unlines (optimizeOnce (readingOf (m .mode .0)) (linesOf (now (src .entry))))) (now (dst .exit)) (r .size) ⌝ }
     ensures memory { λ _. ⌜ (now (scratch .exit) ≡ leftC (m .mode .0) 2 (now (src .entry)) (now (scratch .entry))) × ((now (mid .exit) ≡ leftD (m .mode .0) 2 (now (src .entry)) (now (mid .entry))) × (now (up .exit) ≡ leftU 2 (now (src .entry)) (now (up .entry)))) ⌝ }
     ensures tables { λ _. ⌜ (now (loops .exit) ≡ replicate (length (now (loops .entry))) 0) × ((now (marks .exit) ≡ replicate (length (now (marks .entry))) 0) × ((now (notes .exit) ≡ replicate (length (now (notes .entry))) 0) × ((now (near .exit) ≡ replicate (length (now (near .entry))) 0) × ((now (far .exit) ≡ replicate (length (now (far .entry))) 0) × ((now (stores .exit) ≡ replicate (length (now (stores .entry))) 0) × ((now (paths .exit) ≡ replicate (length (now (paths .entry))) 0) × ((now (ends .exit) ≡ replicate (length (now (ends .entry))) 0) × ((now (seen .exit) ≡ replicate (length (now (seen .entry))) 0) × (now (moves .exit) ≡ replicate (length (now (moves .entry))) 0))))))))) ⌝ }
-    ensures origins { λ _. ⌜ now (table .exit) ≡ through (now (table .entry)) (codesOf (follow (fatesOf (onceActs (readingOf (m .mode .0)) (linesOf (now (src .entry))))) (fatesOf (pruneDeclsActs (apply (onceActs (readingOf (m .mode .0)) (linesOf (now (src .entry)))) (linesOf (now (src .entry)))))))) ⌝ }
+    ensures origins { λ r. ⌜ Carried (movesOf (onceActs (readingOf (m .mode .0)) (linesOf (now (src .entry)))) ∷ movesOf (pruneDeclsActs (apply (onceActs (readingOf (m .mode .0)) (linesOf (now (src .entry)))) (linesOf (now (src .entry))))) ∷ []) (now (from .entry)) (now (raw .entry)) (now (from .exit)) (now (raw .exit)) (r .lines) ⌝ }
 {
     let n = once::optimize_once(
         m.mode,
@@ -102,16 +113,19 @@ fn once_step(
         dst,
         moves,
     );
-    let k = lines::count_lines(src);
+    let k = from.len();
     once::moves_of(&marks[..k], paths);
     lines::wipe(loops, loops.len());
     lines::wipe(marks, marks.len());
-    let s = trace(k, paths, table);
-    trace(s, moves, table);
-    n
+    let s = trace(paths, from, raw);
+    let left = trace(moves, &mut from[..s], raw);
+    Stepped {
+        size: n,
+        lines: left,
+    }
 }
 
-// Runs rebuild_calls, takes the table of origins on through its moves, which are its owners, and makes its tables over lines 0.
+// Runs rebuild_calls, puts its moves, which are its owners, into the table of raw moves, and makes its tables over lines 0.
 fn calls_step(
     m: Task,
     src: &[u8],
@@ -128,13 +142,14 @@ fn calls_step(
     ends: &mut [usize],
     blocks: &mut [usize],
     dst: &mut [u8],
-    table: &mut [usize],
-) -> usize
-    requires { ⌜ Bounded (m .limits) (now src) × (((byteSize (m .limits) ≤ length (now cur)) × ((byteSize (m .limits) ≤ length (now next)) × ((byteSize (m .limits) ≤ length (now stack)) × (byteSize (m .limits) ≤ length (now dst))))) × (((blockSize (m .limits) ≤ length (now up)) × (length (now up) < 2 ^ 32)) × (((m .limits .lines) ≤ length (now starts)) × (((m .limits .lines) ≤ length (now owner)) × (((m .limits .lines) ≤ length (now ends)) × ((m .limits .lines) ≤ length (now blocks))))))) ⌝ }
-    ensures answer { λ r. ⌜ Wrote (now (dst .entry)) 0 (unlines (rebuildCalls (leavesOf (readingOf (m .mode .0))) (linesOf (now (src .entry))))) (now (dst .exit)) r ⌝ }
+    from: &mut [usize],
+    raw: &mut [usize],
+) -> Stepped
+    requires { ⌜ (length (now from) ≡ length (linesOf (now src))) × (Bounded (m .limits) (now src) × (((byteSize (m .limits) ≤ length (now cur)) × ((byteSize (m .limits) ≤ length (now next)) × ((byteSize (m .limits) ≤ length (now stack)) × (byteSize (m .limits) ≤ length (now dst))))) × (((blockSize (m .limits) ≤ length (now up)) × (length (now up) < 2 ^ 32)) × (((m .limits .lines) ≤ length (now starts)) × (((m .limits .lines) ≤ length (now owner)) × (((m .limits .lines) ≤ length (now ends)) × ((m .limits .lines) ≤ length (now blocks)))))))) ⌝ }
+    ensures answer { λ r. ⌜ Wrote (now (dst .entry)) 0 (unlines (rebuildCalls (leavesOf (readingOf (m .mode .0))) (linesOf (now (src .entry))))) (now (dst .exit)) (r .size) ⌝ }
     ensures memory { λ _. ⌜ (now (cur .exit) ≡ leftC (m .mode .0) 4 (now (src .entry)) (now (cur .entry))) × ((now (next .exit) ≡ leftD (m .mode .0) 4 (now (src .entry)) (now (next .entry))) × ((now (stack .exit) ≡ leftE (m .mode .0) 4 (now (src .entry)) (now (stack .entry))) × (now (up .exit) ≡ leftU 4 (now (src .entry)) (now (up .entry))))) ⌝ }
     ensures tables { λ _. ⌜ (now (starts .exit) ≡ replicate (length (now (starts .entry))) 0) × ((now (near .exit) ≡ replicate (length (now (near .entry))) 0) × ((now (stores .exit) ≡ replicate (length (now (stores .entry))) 0) × ((now (notes .exit) ≡ replicate (length (now (notes .entry))) 0) × ((now (owner .exit) ≡ replicate (length (now (owner .entry))) 0) × ((now (ends .exit) ≡ replicate (length (now (ends .entry))) 0) × (now (blocks .exit) ≡ replicate (length (now (blocks .entry))) 0)))))) ⌝ }
-    ensures origins { λ _. ⌜ now (table .exit) ≡ through (now (table .entry)) (codesOf (fatesOf (rebuildCallsActs (leavesOf (readingOf (m .mode .0))) (linesOf (now (src .entry)))))) ⌝ }
+    ensures origins { λ r. ⌜ Carried (movesOf (rebuildCallsActs (leavesOf (readingOf (m .mode .0))) (linesOf (now (src .entry)))) ∷ []) (now (from .entry)) (now (raw .entry)) (now (from .exit)) (now (raw .exit)) (r .lines) ⌝ }
 {
     let n = calls::rebuild_calls(
         src,
@@ -152,15 +167,17 @@ fn calls_step(
         next,
         dst,
     );
-    let k = lines::count_lines(src);
-    trace(k, owner, table);
+    let left = trace(owner, from, raw);
     lines::wipe(starts, starts.len());
     slots::wipe(ends);
     slots::wipe(blocks);
-    n
+    Stepped {
+        size: n,
+        lines: left,
+    }
 }
 
-// Runs bind_declarators, takes the table of origins on through its moves, and makes its tables over lines 0.
+// Runs bind_declarators, puts its moves into the table of raw moves, and makes its tables over lines 0.
 fn bind_step(
     m: Task,
     src: &[u8],
@@ -173,22 +190,26 @@ fn bind_step(
     seen: &mut [usize],
     first: &mut [usize],
     dst: &mut [u8],
-    table: &mut [usize],
-) -> usize
-    requires { ⌜ Bounded (m .limits) (now src) × ((byteSize (m .limits) ≤ length (now dst)) × (((blockSize (m .limits) ≤ length (now up)) × (length (now up) < 2 ^ 32)) × (((m .limits .lines) ≤ length (now starts)) × (((m .limits .lines) ≤ length (now marks)) × (((m .limits .lines) ≤ length (now blocks)) × ((m .limits .lines) ≤ length (now ends))))))) ⌝ }
-    ensures answer { λ r. ⌜ Wrote (now (dst .entry)) 0 (unlines (bindDeclarators (readingOf (m .mode .0)) (linesOf (now (src .entry))))) (now (dst .exit)) r ⌝ }
+    from: &mut [usize],
+    raw: &mut [usize],
+) -> Stepped
+    requires { ⌜ (length (now from) ≡ length (linesOf (now src))) × (Bounded (m .limits) (now src) × ((byteSize (m .limits) ≤ length (now dst)) × (((blockSize (m .limits) ≤ length (now up)) × (length (now up) < 2 ^ 32)) × (((m .limits .lines) ≤ length (now starts)) × (((m .limits .lines) ≤ length (now marks)) × (((m .limits .lines) ≤ length (now blocks)) × ((m .limits .lines) ≤ length (now ends)))))))) ⌝ }
+    ensures answer { λ r. ⌜ Wrote (now (dst .entry)) 0 (unlines (bindDeclarators (readingOf (m .mode .0)) (linesOf (now (src .entry))))) (now (dst .exit)) (r .size) ⌝ }
     ensures memory { λ _. ⌜ now (up .exit) ≡ leftU 6 (now (src .entry)) (now (up .entry)) ⌝ }
     ensures tables { λ _. ⌜ (now (starts .exit) ≡ replicate (length (now (starts .entry))) 0) × ((now (marks .exit) ≡ replicate (length (now (marks .entry))) 0) × ((now (blocks .exit) ≡ replicate (length (now (blocks .entry))) 0) × ((now (ends .exit) ≡ replicate (length (now (ends .entry))) 0) × ((now (seen .exit) ≡ replicate (length (now (seen .entry))) 0) × (now (first .exit) ≡ replicate (length (now (first .entry))) 0))))) ⌝ }
-    ensures origins { λ _. ⌜ now (table .exit) ≡ through (now (table .entry)) (codesOf (fatesOf (bindDeclaratorsActs (readingOf (m .mode .0)) (linesOf (now (src .entry)))))) ⌝ }
+    ensures origins { λ r. ⌜ Carried (movesOf (bindDeclaratorsActs (readingOf (m .mode .0)) (linesOf (now (src .entry)))) ∷ []) (now (from .entry)) (now (raw .entry)) (now (from .exit)) (now (raw .exit)) (r .lines) ⌝ }
 {
     let n = bind::bind_declarators(src, own, ends, blocks, starts, up, marks, seen, first, dst);
-    let k = lines::count_lines(src);
+    let k = from.len();
     bind::moves_of(&marks[..k], blocks);
-    trace(k, blocks, table);
+    let left = trace(blocks, from, raw);
     lines::wipe(starts, starts.len());
     lines::wipe(marks, marks.len());
     slots::wipe(ends);
-    n
+    Stepped {
+        size: n,
+        lines: left,
+    }
 }
 
 // Runs prune_dead_phis, with a table of phis: `moves` gets the moves of the lines.
@@ -270,14 +291,15 @@ fn other_step(
     q: &mut [usize],
     r: &mut [usize],
     t: &mut [usize],
-    table: &mut [usize],
-) -> usize
-    requires { ⌜ (k ≡ 6 → ⊥) × (Bounded (m .limits) (now src) × (Sized (m .limits) (now dst) (now c) (now d) (now e) (now u) × Tabled (m .limits) (now f) (now g) (now v) (now w) (now x) (now p) (now q) (now r) (now t))) ⌝ }
-    ensures answer { λ n. ⌜ Wrote (now (dst .entry)) 0 (unlines (stepOf (readingOf (m .mode .0)) k (linesOf (now (src .entry))))) (now (dst .exit)) n ⌝ }
+    from: &mut [usize],
+    raw: &mut [usize],
+) -> Stepped
+    requires { ⌜ (length (now from) ≡ length (linesOf (now src))) × ((k ≡ 6 → ⊥) × (Bounded (m .limits) (now src) × (Sized (m .limits) (now dst) (now c) (now d) (now e) (now u) × Tabled (m .limits) (now f) (now g) (now v) (now w) (now x) (now p) (now q) (now r) (now t)))) ⌝ }
+    ensures answer { λ n. ⌜ Wrote (now (dst .entry)) 0 (unlines (stepOf (readingOf (m .mode .0)) k (linesOf (now (src .entry))))) (now (dst .exit)) (n .size) ⌝ }
     ensures memory { λ _. ⌜ Left (m .mode .0) k (now (src .entry)) (now (c .entry)) (now (d .entry)) (now (e .entry)) (now (u .entry)) (now (c .exit)) (now (d .exit)) (now (e .exit)) (now (u .exit)) ⌝ }
     ensures tables { λ _. ⌜ Cleared k (now (f .entry)) (now (g .entry)) (now (h .entry)) (now (v .entry)) (now (w .entry)) (now (x .entry)) (now (p .entry)) (now (q .entry)) (now (r .entry)) (now (f .exit)) (now (g .exit)) (now (h .exit)) (now (v .exit)) (now (w .exit)) (now (x .exit)) (now (p .exit)) (now (q .exit)) (now (r .exit)) ⌝ }
     ensures last { λ _. ⌜ now (t .exit) ≡ cleared (usesT k) (now (t .entry)) ⌝ }
-    ensures origins { λ _. ⌜ now (table .exit) ≡ through (now (table .entry)) (codesOf (stepFates (readingOf (m .mode .0)) k (linesOf (now (src .entry))))) ⌝ }
+    ensures origins { λ r. ⌜ Carried (stepMoves (readingOf (m .mode .0)) k (linesOf (now (src .entry)))) (now (from .entry)) (now (raw .entry)) (now (from .exit)) (now (raw .exit)) (r .lines) ⌝ }
 {
     if k == 2 {
         return once_step(
@@ -298,21 +320,25 @@ fn other_step(
             r,
             t,
             dst,
-            table,
+            from,
+            raw,
         );
     }
     if k == 4 {
-        return calls_step(m, src, own, c, d, e, f, u, v, w, x, p, q, r, dst, table);
+        return calls_step(m, src, own, c, d, e, f, u, v, w, x, p, q, r, dst, from, raw);
     }
     let n = few_step(k, m, src, own, dst, c, d, e, f, g, p, q, r);
-    let j = lines::count_lines(src);
-    trace(j, p, table);
-    n
+    let left = trace(p, from, raw);
+    Stepped {
+        size: n,
+        lines: left,
+    }
 }
 
 // Runs a pass of a task by its number from one buffer into another, and returns the length of what it wrote: 0 is the removal, and another number than
 // 1 to 6 changes nothing. The other buffers are scratch, and `f` to `h`, `v` to `x` and `p` to `t` are tables: those that the pass uses are 0 afterwards.
-// `own` has the numbers that are not low, and says where their entries stand. `table` has the codes of lines, and is taken on through the pass.
+// `own` has the numbers that are not low, and says where their entries stand. `from` has the raw lines that stand, one for each
+// line of the text, and `raw` their moves: what becomes of the lines is put into both.
 pub fn step(
     k: usize,
     m: Task,
@@ -333,17 +359,18 @@ pub fn step(
     q: &mut [usize],
     r: &mut [usize],
     t: &mut [usize],
-    table: &mut [usize],
-) -> usize
-    requires { ⌜ Bounded (m .limits) (now src) × (Sized (m .limits) (now dst) (now c) (now d) (now e) (now u) × Tabled (m .limits) (now f) (now g) (now v) (now w) (now x) (now p) (now q) (now r) (now t)) ⌝ }
-    ensures answer { λ n. ⌜ Wrote (now (dst .entry)) 0 (unlines (stepOf (readingOf (m .mode .0)) k (linesOf (now (src .entry))))) (now (dst .exit)) n ⌝ }
+    from: &mut [usize],
+    raw: &mut [usize],
+) -> Stepped
+    requires { ⌜ (length (now from) ≡ length (linesOf (now src))) × (Bounded (m .limits) (now src) × (Sized (m .limits) (now dst) (now c) (now d) (now e) (now u) × Tabled (m .limits) (now f) (now g) (now v) (now w) (now x) (now p) (now q) (now r) (now t))) ⌝ }
+    ensures answer { λ n. ⌜ Wrote (now (dst .entry)) 0 (unlines (stepOf (readingOf (m .mode .0)) k (linesOf (now (src .entry))))) (now (dst .exit)) (n .size) ⌝ }
     ensures memory { λ _. ⌜ Left (m .mode .0) k (now (src .entry)) (now (c .entry)) (now (d .entry)) (now (e .entry)) (now (u .entry)) (now (c .exit)) (now (d .exit)) (now (e .exit)) (now (u .exit)) ⌝ }
     ensures tables { λ _. ⌜ Cleared k (now (f .entry)) (now (g .entry)) (now (h .entry)) (now (v .entry)) (now (w .entry)) (now (x .entry)) (now (p .entry)) (now (q .entry)) (now (r .entry)) (now (f .exit)) (now (g .exit)) (now (h .exit)) (now (v .exit)) (now (w .exit)) (now (x .exit)) (now (p .exit)) (now (q .exit)) (now (r .exit)) ⌝ }
     ensures last { λ _. ⌜ now (t .exit) ≡ cleared (usesT k) (now (t .entry)) ⌝ }
-    ensures origins { λ _. ⌜ now (table .exit) ≡ through (now (table .entry)) (codesOf (stepFates (readingOf (m .mode .0)) k (linesOf (now (src .entry))))) ⌝ }
+    ensures origins { λ r. ⌜ Carried (stepMoves (readingOf (m .mode .0)) k (linesOf (now (src .entry)))) (now (from .entry)) (now (raw .entry)) (now (from .exit)) (now (raw .exit)) (r .lines) ⌝ }
 {
     if k == 6 {
-        return bind_step(m, src, own, f, g, u, p, q, r, t, dst, table);
+        return bind_step(m, src, own, f, g, u, p, q, r, t, dst, from, raw);
     }
     other_step(
         k,
@@ -365,6 +392,7 @@ pub fn step(
         q,
         r,
         t,
-        table,
+        from,
+        raw,
     )
 }
