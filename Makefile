@@ -8,7 +8,7 @@ DESTDIR =
 # What is installed, and where it stands.
 PROGRAM = target/bin/optlines
 ARCHIVE = target/staticlib/libcapi.a
-SHARED = target/lib/liboptlines.so.2
+SHARED = target/lib/liboptlines.so.3
 SCRIPT = optlines
 FRONT = tools/front.sh
 RUN_BUILT = tools/run-built
@@ -23,7 +23,7 @@ to = $(DESTDIR)$(PREFIX)
 own = libexec/optlines
 installed = bin/optlines $(own)/optlines $(own)/front.sh $(own)/run-built $(own)/VERSION \
 	$(own)/TOOLCHAIN share/man/man1/optlines.1 include/optlines.h lib/liboptlines.a \
-	lib/liboptlines.so.2 lib/liboptlines.so lib/pkgconfig/optlines.pc
+	lib/liboptlines.so.3 lib/liboptlines.so lib/pkgconfig/optlines.pc
 exported = optlines_optimize optlines_run_pass
 maker = lib
 
@@ -103,8 +103,8 @@ install: all
 	install -m 644 man/optlines.1 "$(to)/share/man/man1/optlines.1"
 	install -m 644 include/optlines.h "$(to)/include/optlines.h"
 	install -m 644 "$(ARCHIVE)" "$(to)/lib/liboptlines.a"
-	install -m 755 "$(SHARED)" "$(to)/lib/liboptlines.so.2"
-	ln -sf liboptlines.so.2 "$(to)/lib/liboptlines.so"
+	install -m 755 "$(SHARED)" "$(to)/lib/liboptlines.so.3"
+	ln -sf liboptlines.so.3 "$(to)/lib/liboptlines.so"
 	printf '%s\n' 'prefix=$(PREFIX)' 'libdir=$${prefix}/lib' 'includedir=$${prefix}/include' '' \
 	    'Name: optlines' 'Description: Tidies register listings' "Version: $$(cat "$(VERSION)")" \
 	    'Cflags: -I$${includedir}' 'Libs: -L$${libdir} -loptlines' \

@@ -4,6 +4,7 @@
  * NAME
  *     optlines_tidy - run all passes, or one, in buffers that are kept together
  *     optlines_optimize, optlines_run_pass - the same in buffers that are lent one by one
+ *     optlines_lines, optlines_fate, optlines_line - the lines of a text, what a record says
  *
  * LINKING
  *     The library is for x86-64 Linux. Installed (`make lib`, `make install`):
@@ -16,8 +17,9 @@
  *
  * DESCRIPTION
  *     All passes: the lines that declare globals to the runtime go, the six passes run in their
- *     order, and the tidy text is written to the result buffer. One pass runs alone, and no line
- *     goes before it:
+ *     order, and the tidy text is written to the result buffer. Beside it the origins are written
+ *     to the record buffer: where each line of the text went. One pass runs alone, and no line goes
+ *     before it:
  *
  *         1  prune_dead_temps      4  rebuild_calls
  *         2  optimize_once         5  prune_decls
@@ -45,17 +47,45 @@
  *     Any number of threads may call at once, each with a struct optlines_work, or with lent
  *     buffers, of its own. They may share a text that none of them writes.
  *
+ * RECORDS
+ *     The records of a text are a record file of the form OL, which include/optrecords.h reads. A
+ *     record has OPTLINES_RECORD bytes, and there is one for each line of the text, in order:
+ *
+ *         bytes   what
+ *         0, 1    the mark, `O` and `L`
+ *         2, 3    the line of the text, low byte first
+ *         4       its fate
+ *         5, 6    the line of the result, low byte first
+ *
+ *         fate                 the line of the text                 the line of the result
+ *         0 OPTLINES_EQUAL     is kept with equal bytes             the one that it stands as
+ *         1 OPTLINES_CHANGED   is kept with other bytes             the one that it stands as
+ *         2 OPTLINES_INSIDE    has its value in another line        the one that finally holds it
+ *         3 OPTLINES_GONE      is gone                              OPTLINES_NO_LINE, 65,535
+ *
+ *     Lines count from 0: those of the text before any removal, without LF and without a CR just
+ *     before it; those of the result before they are joined. Every line of the result is the line
+ *     of just one record of the fates 0 and 1, and may be that of any number of the fate 2. Where
+ *     the line that took a value goes too, the fate is 3. Kept with equal bytes or with others is
+ *     told by the text and the result alone, not by what the passes did on the way.
+ *
+ *     A text has a line for each LF, and one more where something stands behind the last LF:
+ *     optlines_lines() counts them. A text of no bytes has no lines and no records.
+ *     optlines_fate() and optlines_line() read what record i of a record buffer says.
+ *
  * ONE STRUCT FOR ALL BUFFERS
- *     A struct optlines_work is some 256 KiB: keep it static or allocate it. It needs no setup,
+ *     A struct optlines_work is some 263 KiB: keep it static or allocate it. It needs no setup,
  *     what stands in it before a call does not matter, and it may be used again and again. After a
- *     call the result is in work->out, of the length work->length, and the place of a refusal in
- *     work->place. Its buffers are as long as stated and lie apart, so that nothing can be lent too
- *     short or twice: OPTLINES_SHORT_WORK and OPTLINES_SHORT_RESULT do not occur.
+ *     call the result is in work->out, of the length work->length, the records are in work->orig,
+ *     work->records of them, and the place of a refusal is in work->place. A refusal has the length
+ *     0 and no records. The buffers are as long as stated and lie apart, so that nothing can be
+ *     lent too short or twice: OPTLINES_SHORT_WORK, OPTLINES_SHORT_RESULT and
+ *     OPTLINES_SHORT_RECORDS do not occur.
  *
  *     The text must lie outside *work, since the buffers are written while it is read; it is the
  *     caller's fault where it does not. Then optlines_tidy() answers OPTLINES_OVERLAP and writes
- *     nothing but work->length and work->place, which are 0. So to run a pass over a result, copy
- *     the result first.
+ *     nothing but work->length, work->records and work->place, which are 0. So to run a pass over a
+ *     result, copy the result first.
  *
  * BUFFERS LENT ONE BY ONE
  *     Every buffer is a pointer and then its length, counted in elements.
@@ -65,14 +95,17 @@
  *         u       a work buffer of 32-bit numbers, of at least OPTLINES_BLOCKS
  *         out     the result buffer. No result is longer than twice its text, so 2 * text_length is
  *                 always enough
+ *         orig    the record buffer, of OPTLINES_RECORD bytes for each line of the text;
+ *                 OPTLINES_RECORDS, 7,168, are always enough
  *         length  where the length of the result is stored
  *         place   where the place of a refusal is stored
  *
- *     What stands in a work buffer or in the result buffer before a call does not matter.
+ *     What stands in a work buffer, in the result buffer or in the record buffer before a call does
+ *     not matter.
  *
  *     The caller sees to the following, and nothing checks it. Each pointer points to as many
- *     elements as its length says, and is aligned for them. None of a to e, u, out, length and
- *     place overlaps any other thing that is lent: where out is a, for one, the answer is
+ *     elements as its length says, and is aligned for them. None of a to e, u, out, orig, length
+ *     and place overlaps any other thing that is lent: where out is a, for one, the answer is
  *     OPTLINES_DONE and the result is lost. A pointer whose length is 0 is not followed, and may be
  *     null. length and place are always followed.
  *
@@ -80,7 +113,7 @@
  *     A number, with a length and a place stored. For a refusal the length is 0.
  *
  *         number                     when, checked in this order           place
- *         0 OPTLINES_DONE            the result is written                 0
+ *         0 OPTLINES_DONE            result and records are written        0
  *         1 OPTLINES_BAD_PASS        pass is not 1 to 6 (optlines_tidy:    0
  *                                    not 0 to 6; optlines_optimize: never)
  *        12 OPTLINES_BAD_MODE        mode is not 0 or 1                    0
@@ -95,27 +128,31 @@
  *         5 OPTLINES_TOO_MANY_LINES  more than 1,024 lines                 1024
  *         6 OPTLINES_CROWDED         a line with more than 64 bytes '['    that line, from 0
  *         7 OPTLINES_SHORT_RESULT    out is shorter than the result        the length it needs
+ *         8 OPTLINES_SHORT_RECORDS   orig is shorter than OPTLINES_RECORD  the length it needs
+ *                                    bytes for each line of the text
  *
  *         255 OPTLINES_OVERLAP       text lies in *work (optlines_tidy     0
  *                                    alone, which checks it first of all)
  *
- *     So a text that is too long and not UTF-8 gets 2. The numbers 4, 9, 10 and 11 exclude one
- *     another: they tell of the first bad sequence. A well-formed text that was cut anywhere gets
- *     none of 4, 10 and 11; so after 9 the whole text is to be asked for again, and after the
+ *     So a text that is too long and not UTF-8 gets 2, and one whose result and records both lack
+ *     room gets 7. The length is that of the result; the records take OPTLINES_RECORD bytes for
+ *     each line of the text, and lines that go have one too. The numbers 4, 9, 10 and 11 exclude
+ *     one another: they tell of the first bad sequence. A well-formed text that was cut anywhere
+ *     gets none of 4, 10 and 11; so after 9 the whole text is to be asked for again, and after the
  *     others it is damaged, or in another encoding. Nothing else is refused. A later release may
  *     have more numbers, so treat every number but 0 as a refusal.
  *
  * MEMORY AFTER A CALL
- *         number   out                                        a to e, u
- *         0        the result, then what stood there before   0 in the first OPTLINES_BYTES or
- *                                                             OPTLINES_BLOCKS, the rest as before
- *         7        as before                                  the same as after 0
+ *         number   out, orig                                  a to e, u
+ *         0        the result, the records, and behind each   0 in the first OPTLINES_BYTES or
+ *                  what stood there before                    OPTLINES_BLOCKS, the rest as before
+ *         7, 8     as before                                  the same as after 0
  *         others   as before                                  as before
  *
  * WHAT IS PROVED
  *     The answer and every lent byte of optlines_optimize and optlines_run_pass, as above, for all
  *     arguments that meet what is said under BUFFERS LENT ONE BY ONE: the contracts of crate capi
- *     (docs/CONTRACTS.md). This file, and with it optlines_tidy, is not part of the proof;
+ *     (docs/CONTRACTS.md). This file, and with it each inline function, is not part of the proof;
  *     tests/bindings calls what it declares, from C and C++.
  *
  * EXAMPLE
@@ -145,6 +182,7 @@
  *     #include <stdio.h>
  *
  *     static uint8_t text[OPTLINES_TEXT + 1], bytes[5][OPTLINES_BYTES], out[2 * OPTLINES_TEXT];
+ *     static uint8_t orig[OPTLINES_RECORDS];
  *     static uint32_t blocks[OPTLINES_BLOCKS];
  *
  *     int main(void)
@@ -156,12 +194,35 @@
  *         uint8_t number = optlines_optimize(OPTLINES_PLAIN, text, text_length,
  *             bytes[0], OPTLINES_BYTES, bytes[1], OPTLINES_BYTES, bytes[2], OPTLINES_BYTES,
  *             bytes[3], OPTLINES_BYTES, bytes[4], OPTLINES_BYTES, blocks, OPTLINES_BLOCKS,
- *             out, sizeof out, &length, &place);
+ *             out, sizeof out, orig, sizeof orig, &length, &place);
  *         if (number != OPTLINES_DONE) {
  *             fprintf(stderr, "refused %d %zu\n", number, place);
  *             return 1;
  *         }
  *         return fwrite(out, 1, length, stdout) == length && fflush(stdout) == 0 ? 0 : 2;
+ *     }
+ *
+ * EXAMPLE WITH RECORDS
+ *     #include <optlines.h>
+ *     #include <stdio.h>
+ *
+ *     static struct optlines_work work;
+ *     static uint8_t text[OPTLINES_TEXT + 1];
+ *
+ *     int main(void)
+ *     {
+ *         size_t length = fread(text, 1, sizeof text, stdin);
+ *         if (ferror(stdin))
+ *             return 2;
+ *
+ *         if (optlines_tidy(&work, 0, OPTLINES_PLAIN, text, length) != OPTLINES_DONE)
+ *             return 1;
+ *         for (size_t i = 0; i < work.records; i++)
+ *             if (optlines_fate(work.orig, i) == OPTLINES_GONE)
+ *                 printf("line %zu is gone\n", i);
+ *             else
+ *                 printf("line %zu is in line %zu\n", i, optlines_line(work.orig, i));
+ *         return fflush(stdout) == 0 ? 0 : 2;
  *     }
  */
 #ifndef OPTLINES_H
@@ -183,6 +244,11 @@ extern "C" {
 #define OPTLINES_LINES 1024
 #define OPTLINES_BRACKETS 64
 
+/* The bytes of a record, bytes of records that are always enough, and the line of a gone line. */
+#define OPTLINES_RECORD 7
+#define OPTLINES_RECORDS 7168
+#define OPTLINES_NO_LINE 65535
+
 /* The modes. */
 #define OPTLINES_PLAIN 0
 #define OPTLINES_STRICT 1
@@ -200,11 +266,20 @@ enum {
     OPTLINES_TOO_MANY_LINES = 5,
     OPTLINES_CROWDED = 6,
     OPTLINES_SHORT_RESULT = 7,
+    OPTLINES_SHORT_RECORDS = 8,
     OPTLINES_CUT = 9,
     OPTLINES_OVERLONG = 10,
     OPTLINES_OUTSIDE = 11,
     OPTLINES_BAD_MODE = 12,
     OPTLINES_OVERLAP = 255
+};
+
+/* The fates. */
+enum {
+    OPTLINES_EQUAL = 0,
+    OPTLINES_CHANGED = 1,
+    OPTLINES_INSIDE = 2,
+    OPTLINES_GONE = 3
 };
 
 uint8_t optlines_optimize(
@@ -217,6 +292,7 @@ uint8_t optlines_optimize(
     uint8_t *e, size_t e_length,
     uint32_t *u, size_t u_length,
     uint8_t *out, size_t out_length,
+    uint8_t *orig, size_t orig_length,
     size_t *length, size_t *place);
 
 uint8_t optlines_run_pass(
@@ -229,6 +305,7 @@ uint8_t optlines_run_pass(
     uint8_t *e, size_t e_length,
     uint32_t *u, size_t u_length,
     uint8_t *out, size_t out_length,
+    uint8_t *orig, size_t orig_length,
     size_t *length, size_t *place);
 
 /* All that a call of optlines_tidy() writes. */
@@ -236,9 +313,33 @@ struct optlines_work {
     uint8_t bytes[5][OPTLINES_BYTES];
     uint32_t blocks[OPTLINES_BLOCKS];
     uint8_t out[2 * OPTLINES_TEXT];
+    uint8_t orig[OPTLINES_RECORDS];
     size_t length;
+    size_t records;
     size_t place;
 };
+
+/* How many lines a text has. */
+static inline size_t optlines_lines(const uint8_t *text, size_t text_length)
+{
+    size_t lines = 0;
+    for (size_t i = 0; i < text_length; i++)
+        lines += text[i] == '\n' || i + 1 == text_length;
+    return lines;
+}
+
+/* The fate that record i of a record buffer tells. */
+static inline uint8_t optlines_fate(const uint8_t *orig, size_t i)
+{
+    return orig[OPTLINES_RECORD * i + 4];
+}
+
+/* The line of the result that record i of a record buffer tells. */
+static inline size_t optlines_line(const uint8_t *orig, size_t i)
+{
+    const uint8_t *line = orig + OPTLINES_RECORD * i + 5;
+    return line[0] | (size_t)line[1] << 8;
+}
 
 /* Whether a text and *work have a byte in common. */
 static inline int optlines_overlap(
@@ -253,19 +354,24 @@ static inline int optlines_overlap(
 static inline uint8_t optlines_tidy(
     struct optlines_work *work, size_t pass, size_t mode, const uint8_t *text, size_t text_length)
 {
-    uint8_t (*w)[OPTLINES_BYTES] = work->bytes;
+    uint8_t (*w)[OPTLINES_BYTES] = work->bytes, number;
     size_t n = OPTLINES_BYTES;
-    if (optlines_overlap(work, text, text_length)) {
-        work->length = work->place = 0;
+    work->length = work->records = work->place = 0;
+    if (optlines_overlap(work, text, text_length))
         return OPTLINES_OVERLAP;
-    }
     if (pass == 0)
-        return optlines_optimize(mode, text, text_length,
+        number = optlines_optimize(mode, text, text_length,
             w[0], n, w[1], n, w[2], n, w[3], n, w[4], n, work->blocks, OPTLINES_BLOCKS,
-            work->out, sizeof work->out, &work->length, &work->place);
-    return optlines_run_pass(pass, mode, text, text_length,
-        w[0], n, w[1], n, w[2], n, w[3], n, w[4], n, work->blocks, OPTLINES_BLOCKS,
-        work->out, sizeof work->out, &work->length, &work->place);
+            work->out, sizeof work->out, work->orig, sizeof work->orig,
+            &work->length, &work->place);
+    else
+        number = optlines_run_pass(pass, mode, text, text_length,
+            w[0], n, w[1], n, w[2], n, w[3], n, w[4], n, work->blocks, OPTLINES_BLOCKS,
+            work->out, sizeof work->out, work->orig, sizeof work->orig,
+            &work->length, &work->place);
+    if (number == OPTLINES_DONE)
+        work->records = optlines_lines(text, text_length);
+    return number;
 }
 
 #ifdef __cplusplus

@@ -4,7 +4,7 @@ mod ends;
 mod judge;
 mod wire;
 
-use judge::{Answer, Asked, MOST_BYTES, WORK};
+use judge::{Answer, Asked, Manner, MOST_BYTES, WORK};
 use wire::Wire;
 
 fn read(wire: &mut Wire) -> Option<Asked> {
@@ -13,6 +13,7 @@ fn read(wire: &mut Wire) -> Option<Asked> {
         mode: wire.one()?,
         short: wire.one()?,
         room: wire.four()?,
+        records: wire.four()?,
         text: wire.text(MOST_BYTES as u64 + 1)?,
     })
 }
@@ -21,30 +22,31 @@ fn write(wire: &mut Wire, answer: &Answer) -> Option<()> {
     wire.put(&[answer.number, 1])?;
     wire.put(&(answer.result.len() as u32).to_le_bytes())?;
     wire.put(&answer.place.to_le_bytes())?;
-    wire.put(&answer.result)
+    wire.put(&answer.result)?;
+    wire.put_text(&answer.records)
 }
 
-fn serve(wire: &mut Wire, work: u8) -> Option<()> {
+fn serve(wire: &mut Wire, manner: &Manner) -> Option<()> {
     loop {
         wire.ready()?;
         let asked = read(wire)?;
-        write(wire, &judge::answer(&asked, work))?;
+        write(wire, &judge::answer(&asked, manner))?;
     }
 }
 
-fn work_buffers() -> u8 {
-    let words: Vec<String> = std::env::args().skip(1).collect();
-    let number = match words.len() {
-        0 => return WORK,
-        2 if words[0] == "--work" => words[1].parse().ok(),
+fn manner(words: &[String]) -> Option<Manner> {
+    match words {
+        [] => Some(Manner { work: WORK, records: true }),
+        [first, rest @ ..] if first == "--texts" => Some(Manner { records: false, ..manner(rest)? }),
+        [first, number, rest @ ..] if first == "--work" => Some(Manner { work: number.parse().ok()?, ..manner(rest)? }),
         _ => None,
-    };
-    number.unwrap_or_else(|| wire::usage("answers [--work N], N at most 255"))
+    }
 }
 
 fn main() {
-    let work = work_buffers();
+    let words: Vec<String> = std::env::args().skip(1).collect();
+    let manner = manner(&words).unwrap_or_else(|| wire::usage("answers [--work N] [--texts], N at most 255"));
     // a panic of the original is answered, not printed
     std::panic::set_hook(Box::new(|_| {}));
-    serve(&mut Wire::new(), work);
+    serve(&mut Wire::new(), &manner);
 }

@@ -7,6 +7,11 @@ pub const MOST_BYTES: usize = 16_384;
 pub const MOST_LINES: usize = 1_024;
 pub const MOST_BRACKETS: usize = 64;
 pub const MOST_ROOM: u32 = 32_768;
+/// The bytes of a record, and the most that are lent for records: some more than those of as many lines as a text may have.
+pub const RECORD: usize = 7;
+pub const MOST_RECORDS: u32 = (RECORD * MOST_LINES) as u32 + 8;
+/// What lent buffers are filled with.
+pub const FILLED: u8 = 165;
 /// The number of lent work buffers.
 pub const WORK: u8 = 6;
 
@@ -14,27 +19,36 @@ pub const WORK: u8 = 6;
 pub const PLAIN: u8 = 0;
 pub const STRICT: u8 = 1;
 
-/// Not numbers of the table: the original would not end, and the original panicked.
+/// Not numbers of the table: the original would not end, the original panicked, and the copy that carries origins gave another text.
 pub const SKIPPED: u8 = 255;
 pub const PANICKED: u8 = 254;
+pub const CARRIED_OTHER: u8 = 253;
 
 pub struct Asked {
     pub pass: u8,
     pub mode: u8,
     pub short: u8,
     pub room: u32,
+    pub records: u32,
     pub text: Vec<u8>,
 }
 
+/// How requests are answered: how many work buffers are lent, and whether records are written.
+pub struct Manner {
+    pub work: u8,
+    pub records: bool,
+}
+
+/// What is told: the number, the place, the result, and the whole of the lent record buffer.
 pub struct Answer {
     pub number: u8,
     pub place: u32,
     pub result: Vec<u8>,
+    pub records: Vec<u8>,
 }
 
-fn refused(number: u8, place: usize) -> Answer {
-    Answer { number, place: place as u32, result: Vec::new() }
-}
+/// A number and a place.
+pub type Refused = (u8, usize);
 
 /// The first line with more than 64 brackets.
 pub fn crowded_line(text: &str) -> Option<usize> {
@@ -52,55 +66,102 @@ fn flaw(rest: &[u8], cut: bool) -> u8 {
 }
 
 /// The text, or the refusal for its bytes.
-fn utf8(text: &[u8]) -> Result<&str, Answer> {
+fn utf8(text: &[u8]) -> Result<&str, Refused> {
     std::str::from_utf8(text).map_err(|e| {
         let at = e.valid_up_to();
-        refused(flaw(&text[at..], e.error_len().is_none()), at)
+        (flaw(&text[at..], e.error_len().is_none()), at)
     })
 }
 
-/// The text, if no refusal but 7 holds.
-fn accepted(asked: &Asked, work: u8) -> Result<&str, Answer> {
+/// The text, if no refusal but 7 and 8 holds.
+fn accepted(asked: &Asked, work: u8) -> Result<&str, Refused> {
     if asked.pass > 6 {
-        return Err(refused(1, 0));
+        return Err((1, 0));
     }
     if asked.mode > STRICT {
-        return Err(refused(12, 0));
+        return Err((12, 0));
     }
     if asked.text.len() > MOST_BYTES {
-        return Err(refused(2, MOST_BYTES));
+        return Err((2, MOST_BYTES));
     }
     if (1..=work).contains(&asked.short) {
-        return Err(refused(3, 0));
+        return Err((3, 0));
     }
     let text = utf8(&asked.text)?;
     if text.lines().count() > MOST_LINES {
-        return Err(refused(5, MOST_LINES));
+        return Err((5, MOST_LINES));
     }
-    crowded_line(text).map_or(Ok(text), |line| Err(refused(6, line)))
+    crowded_line(text).map_or(Ok(text), |line| Err((6, line)))
 }
 
-fn run(pass: u8, mode: u8, text: &str) -> Option<String> {
-    let work = || match (mode, pass) {
+fn run(pass: u8, mode: u8, text: &str) -> String {
+    match (mode, pass) {
         (PLAIN, 0) => opt::optimize(text),
         (PLAIN, _) => opt::exports::one_pass(pass, text),
         (_, 0) => strict::optimize(text),
         _ => strict::exports::one_pass(pass, text),
-    };
-    catch_unwind(AssertUnwindSafe(work)).ok()
+    }
 }
 
-pub fn answer(asked: &Asked, work: u8) -> Answer {
-    let text = match accepted(asked, work) {
-        Ok(text) => text,
-        Err(answer) => return answer,
-    };
+/// The same by a copy that carries origins, with the fate and the output line of each line.
+fn traced(pass: u8, mode: u8, text: &str) -> (String, Vec<(u8, u16)>) {
+    match (mode, pass) {
+        (PLAIN, 0) => carrying::carried::whole(text),
+        (PLAIN, _) => carrying::carried::one_pass(pass, text),
+        (_, 0) => strict_carrying::carried::whole(text),
+        _ => strict_carrying::carried::one_pass(pass, text),
+    }
+}
+
+/// What the work gives, where the original does not panic.
+fn caught<T>(work: impl FnOnce() -> T) -> Result<T, Refused> {
+    catch_unwind(AssertUnwindSafe(work)).map_err(|_| (PANICKED, 0))
+}
+
+/// The text and its result, if no refusal but 7 and 8 holds.
+pub fn result(asked: &Asked, work: u8) -> Result<(&str, String), Refused> {
+    let text = accepted(asked, work)?;
     if !ends::pass_ends(asked.pass, asked.mode, text) {
-        return refused(SKIPPED, 0);
+        return Err((SKIPPED, 0));
     }
-    let Some(result) = run(asked.pass, asked.mode, text) else { return refused(PANICKED, 0) };
+    Ok((text, caught(|| run(asked.pass, asked.mode, text))?))
+}
+
+/// Document 02's request 1: the mark, the input line, the fate and the output line of each line.
+fn records_of(fates: Vec<(u8, u16)>) -> Vec<u8> {
+    let record = |(line, (fate, output)): (usize, (u8, u16))| {
+        let [low, high] = (line as u16).to_le_bytes();
+        let [output_low, output_high] = output.to_le_bytes();
+        [b'O', b'L', low, high, fate, output_low, output_high]
+    };
+    fates.into_iter().enumerate().flat_map(record).collect()
+}
+
+/// The result, with the records at the front of their buffer; or the refusal, the buffer as it was.
+fn written(asked: &Asked, manner: &Manner, records: &mut [u8]) -> Result<String, Refused> {
+    let (text, result) = result(asked, manner.work)?;
     if result.len() > asked.room.min(MOST_ROOM) as usize {
-        return refused(7, result.len());
+        return Err((7, result.len()));
     }
-    Answer { number: 0, place: 0, result: result.into_bytes() }
+    let need = RECORD * text.lines().count();
+    if records.len() < need {
+        return Err((8, need));
+    }
+    if manner.records {
+        let (carried, fates) = caught(|| traced(asked.pass, asked.mode, text))?;
+        if carried != result {
+            return Err((CARRIED_OTHER, 0));
+        }
+        records[..need].copy_from_slice(&records_of(fates));
+    }
+    Ok(result)
+}
+
+pub fn answer(asked: &Asked, manner: &Manner) -> Answer {
+    let mut records = vec![FILLED; asked.records.min(MOST_RECORDS) as usize];
+    let (number, place, result) = match written(asked, manner, &mut records) {
+        Ok(result) => (0, 0, result.into_bytes()),
+        Err((number, place)) => (number, place as u32, Vec::new()),
+    };
+    Answer { number, place, result, records }
 }

@@ -1,6 +1,7 @@
 //! Makes requests, the same for the same seed on every machine. See README.md.
 
 mod asking;
+mod cuts;
 mod ends;
 mod grammar;
 mod judge;
@@ -10,7 +11,7 @@ mod rules;
 mod texts;
 mod wire;
 
-use judge::{Asked, MOST_ROOM, PLAIN, STRICT, WORK};
+use judge::{Asked, MOST_LINES, MOST_RECORDS, MOST_ROOM, PLAIN, RECORD, STRICT, WORK};
 use random::Random;
 use texts::{Alphabet, Texts};
 use wire::Wire;
@@ -63,6 +64,9 @@ fn kind_of(index: u64) -> (&'static Kind, u64) {
     unreachable!("the shares come to 100")
 }
 
+/// Bytes lent for records beyond those that a text needs, where a request shall not be refused.
+const SPARE: u32 = 3;
+
 /// Short texts go on where the seed before leaves off, where that one had some 100,000 requests.
 const SHORT_OF_A_SEED: u64 = 16_000;
 
@@ -103,13 +107,14 @@ impl Maker {
             _ => r.below(10).saturating_sub(3) as u8,
         };
         let mode = r.below(2) as u8;
-        let mut asked = Asked { pass, mode, short: 0, room: MOST_ROOM, text: self.text(kind, before, pass, r) };
+        let mut asked = in_room(pass, mode, self.text(kind, before, pass, r));
         match kind {
             Kind::Room => asked.room = near_room(r, &asked),
             Kind::Work => asked.short = r.between(1, WORK as usize + 1) as u8,
             Kind::Spoiled => self.spoil(r, &mut asked),
             _ => {}
         }
+        asked.records = near_records(r, records_for(&asked.text), if matches!(kind, Kind::Room) { 6 } else { 40 });
         asked
     }
 
@@ -132,7 +137,7 @@ impl Maker {
 
 /// A result buffer of exactly the length, a little more or less, or none.
 fn near_room(r: &mut Random, asked: &Asked) -> u32 {
-    let length = judge::answer(asked, WORK).result.len() as u32;
+    let length = judge::result(asked, WORK).map_or(0, |(_, result)| result.len() as u32);
     match r.below(5) {
         0 => length,
         1 => length.saturating_sub(1),
@@ -142,9 +147,34 @@ fn near_room(r: &mut Random, asked: &Asked) -> u32 {
     }
 }
 
+/// How long the records of a text are, if it has no more lines than it may have.
+fn records_for(text: &[u8]) -> u32 {
+    let ends = text.iter().filter(|b| **b == b'\n').count();
+    let lines = ends + text.last().is_some_and(|b| *b != b'\n') as usize;
+    (RECORD * lines.min(MOST_LINES)) as u32
+}
+
+/// Of so many record buffers one is a byte short, one shorter, one empty, one exact, one as long as it may be or longer; the others have some more.
+fn near_records(r: &mut Random, need: u32, of: usize) -> u32 {
+    match r.below(of) {
+        0 => need.saturating_sub(1),
+        1 => r.below(need as usize + 1) as u32,
+        2 => 0,
+        3 => need,
+        4 => *r.pick(&[&MOST_RECORDS, &(MOST_RECORDS + 1), &u32::MAX]),
+        _ => need + r.below(16) as u32,
+    }
+}
+
+/// A request in which nothing is too short.
+fn in_room(pass: u8, mode: u8, text: Vec<u8>) -> Asked {
+    Asked { pass, mode, short: 0, room: MOST_ROOM, records: records_for(&text) + SPARE, text }
+}
+
 fn write(wire: &mut Wire, asked: &Asked) -> Option<()> {
     wire.put(&[asked.pass, asked.mode, asked.short])?;
     wire.put(&asked.room.to_le_bytes())?;
+    wire.put(&asked.records.to_le_bytes())?;
     wire.put_text(&asked.text)
 }
 
@@ -159,17 +189,31 @@ fn all_texts(wire: &mut Wire, alphabet: &Alphabet, tokens: u64, passes: &[u8]) -
     (0..count).try_for_each(|index| {
         let text = alphabet.text(index).into_bytes();
         let asked = passes.iter().flat_map(|&pass| [(pass, PLAIN), (pass, STRICT)]);
-        asked.into_iter().try_for_each(|(pass, mode)| write(wire, &Asked { pass, mode, short: 0, room: MOST_ROOM, text: text.clone() }))
+        asked.into_iter().try_for_each(|(pass, mode)| write(wire, &in_room(pass, mode, text.clone())))
     })
 }
 
 /// Requests for the whole of texts about the rules of UTF-8.
 fn flaws(wire: &mut Wire, mut texts: impl Iterator<Item = Vec<u8>>) -> Option<()> {
-    texts.try_for_each(|text| write(wire, &Asked { pass: 0, mode: PLAIN, short: 0, room: MOST_ROOM, text }))
+    texts.try_for_each(|text| write(wire, &in_room(0, PLAIN, text)))
+}
+
+/// For each cut three requests, of a pass to which the law of cuts applies: for the whole text, for the upper part and for the tail.
+fn cut_texts(wire: &mut Wire, seed: u64, count: u64) -> Option<()> {
+    let texts = Texts::new();
+    (0..count).try_for_each(|index| {
+        let r = &mut Random::new(seed, index);
+        let (pass, mode) = (r.between(4, 6) as u8, r.below(2) as u8);
+        let (text, at) = cuts::cut_text(&texts, r, pass);
+        for part in [&text[..], &text[..at], &text[at..]] {
+            write(wire, &in_room(pass, mode, part.into()))?;
+        }
+        Some(())
+    })
 }
 
 fn number(word: Option<&String>) -> u64 {
-    let usage = "make SEED COUNT | make leaves SEED COUNT [FUNCTION..] | make all ALPHABET TOKENS [PASS..] | make flaws SEED COUNT | make flaws all BYTES";
+    let usage = "make SEED COUNT | make leaves SEED COUNT [FUNCTION..] | make all ALPHABET TOKENS [PASS..] | make flaws SEED COUNT | make flaws all BYTES | make cuts SEED COUNT";
     word.and_then(|w| w.parse().ok()).unwrap_or_else(|| wire::usage(usage))
 }
 
@@ -191,6 +235,7 @@ fn main() {
             let (seed, count) = (number(words.get(1)), number(words.get(2)));
             flaws(&mut wire, (0..count).map(|index| texts::flawed(&mut Random::new(seed, index))))
         }
+        Some("cuts") => cut_texts(&mut wire, number(words.get(1)), number(words.get(2))),
         Some("all") => {
             let passes = if words.len() > 3 { numbers(&words) } else { (0..=6).collect() };
             let named = words.get(1).and_then(|name| Alphabet::of(name));

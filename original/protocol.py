@@ -52,11 +52,19 @@ def shown(text):
 class Texts:
     """Requests for whole texts, and their answers."""
 
-    HEAD = struct.Struct("<BBBII")  # pass, mode, short, room, length; the text follows
+    HEAD = struct.Struct("<BBBIII")  # pass, mode, short, room, records, length; the text follows
+    TOLD = struct.Struct("<BBII")  # number, memory, length, place; the result follows, then the record buffer with its length
+    RECORD = struct.Struct("<2sHBH")  # mark, input line, fate, output line
+
+    @staticmethod
+    def records_of(text):
+        """The bytes that the records of a text take."""
+        return Texts.RECORD.size * (text.count(b"\n") + (text[-1:] not in (b"", b"\n")))
 
     @staticmethod
     def request(which, mode, room, text, short=0):
-        return Texts.HEAD.pack(which, mode, short, room, len(text)) + text
+        """A request that lends the record buffer that the text needs."""
+        return Texts.HEAD.pack(which, mode, short, room, Texts.records_of(text), len(text)) + text
 
     @staticmethod
     def text(request):
@@ -64,11 +72,19 @@ class Texts:
 
     @staticmethod
     def request_end(data, at):
-        return at + Texts.HEAD.size + Texts.HEAD.unpack_from(data, at)[4]
+        return at + Texts.HEAD.size + Texts.HEAD.unpack_from(data, at)[5]
 
     @staticmethod
     def answer_end(data, at):
-        return at + 10 + struct.unpack_from("<I", data, at + 2)[0]
+        records_at = at + Texts.TOLD.size + Texts.TOLD.unpack_from(data, at)[2]
+        return records_at + 4 + struct.unpack_from("<I", data, records_at)[0]
+
+    @staticmethod
+    def answer(answer):
+        """Number, memory, place, the result and the record buffer."""
+        number, memory, length, place = Texts.TOLD.unpack_from(answer)
+        result_at = Texts.TOLD.size
+        return number, memory, place, answer[result_at : result_at + length], answer[result_at + length + 4 :]
 
     @staticmethod
     def skipped(answer):
@@ -81,14 +97,36 @@ class Texts:
 
     @staticmethod
     def show_request(request):
-        which, mode, short, room, length = Texts.HEAD.unpack_from(request)
-        return f"pass {which}, mode {mode}, short {short}, room {room}, {length} bytes:\n{shown(Texts.text(request))}"
+        which, mode, short, room, records, length = Texts.HEAD.unpack_from(request)
+        head = f"pass {which}, mode {mode}, short {short}, room {room}, records {records}, {length} bytes"
+        return f"{head}:\n{shown(Texts.text(request))}"
 
     @staticmethod
     def show_answer(answer):
-        number, memory, length, place = struct.unpack_from("<BBII", answer)
-        head = f"number {number}, memory {memory}, length {length}, place {place}"
-        return head + (":\n" + shown(answer[10:]) if length else "")
+        number, memory, place, result, records = Texts.answer(answer)
+        head = f"number {number}, memory {memory}, length {len(result)}, place {place}"
+        return head + (":\n" + shown(result) if result else "") + "\n  records: " + Texts.show_records(records)
+
+    @staticmethod
+    def records(buffer):
+        """The records at the front of a buffer, as far as the mark stands there: mark, input line, fate, output line."""
+        found, size = [], Texts.RECORD.size
+        for at in range(0, len(buffer) - size + 1, size):
+            if buffer[at : at + 2] != b"OL":
+                break
+            found.append(Texts.RECORD.unpack_from(buffer, at))
+        return found
+
+    @staticmethod
+    def show_records(buffer):
+        """Input line, fate and output line of each record; then the bytes that are none."""
+        found = Texts.records(buffer)
+        told = ["{1}:{2},{3}".format(*each) for each in found]
+        rest = buffer[len(found) * Texts.RECORD.size :]
+        same = len(rest) - len(rest.lstrip(rest[:1]))
+        if same:
+            told.append(f"then {same} bytes {rest[0]:02x}, {rest[same:][:40].hex(' ') or 'no more'}")
+        return " ".join(told) or "none"
 
 
 class Prunings:

@@ -1,8 +1,9 @@
 # shellcheck shell=sh disable=SC2154
 # The front of the project's programs: finds a program, builds it where it is missing, runs it, and makes an exit status of what it says.
 # A script sources this file after it has set `here`, the folder that it stands in with its links followed; then it calls
-# `front NAME WORDS..`. It may set `valued`, the options that take a value and go to the program, `bare`, those that go to it without one,
-# and `operands`, how many files the program takes (where it is not set: one or none, and -o for many), and has to define `usage`.
+# `front NAME WORDS..`. It may set `valued`, the options that take a value and go to the program, `filed`, those of them whose value is a file
+# that the program writes beside its standard output, `bare`, those that go to it without one, `suffix`,
+# what a result's name has behind that of its listing, and `operands`, how many files the program takes (where it is not set: one or none, and -o for many), and has to define `usage`.
 #
 #   in the repository   here/tools/front.sh, here/tools/run-built, here/VERSION, here/TOOLCHAIN, here/target/bin/NAME
 #   installed           PREFIX/bin/NAME (the script; here is PREFIX/bin), and in PREFIX/libexec/optlines/ the files front.sh, run-built,
@@ -174,7 +175,7 @@ one() { # WORDS..
 }
 
 # The name of FILE's result. A name that begins with - is not taken for an option.
-result_of() { out=$folder/${1##*/}; }
+result_of() { out=$folder/${1##*/}${suffix-}; }
 
 # Says why the results cannot stand in the folder, before anything is written: each needs a name of its own, and none may be a listing.
 refuse_clashes() { # FILES..
@@ -230,6 +231,34 @@ one_to_file() { # FILE WORDS..
     return "$status"
 }
 
+# Refuses a file that the program would write over a listing, or over a folder.
+refuse_beside() { # FILES..
+    [ ! -d "$out" ] || die "cannot write $out: it is a folder"
+    for file in "$@"; do
+        [ ! "$out" -ef "$file" ] || die "$beside_option would overwrite the listing: $out"
+    done
+}
+
+# One listing to standard output, and what the program writes beside it to a file: moved there whole, or not at all.
+one_and_beside() { # FILES..
+    case $beside in -*) out=./$beside ;; *) out=$beside ;; esac
+    refuse_beside "$@"
+    scratch=$(LC_ALL=C mktemp -- "$(dirname -- "$out")/.$name.XXXXXX" 2>&1) || { why=$scratch scratch=; die "cannot write $out: $(reason "$why")"; }
+    (: 3>&1) 2>/dev/null || die 'cannot write standard output: it is closed'
+    eval "run $passed $(quoted "$beside_option") $(quoted "$scratch") -- \"\$@\""
+    status=$?
+    case $said in
+    '') ;;
+    "$name: cannot write $scratch: "*) note "cannot write $out: $(reason "$said")" ;;
+    *) printf '%s\n' "$said" >&2 ;;
+    esac
+    if [ "$status" -eq 0 ]; then
+        why=$(move 2>&1) || { note "cannot write $out: $(reason "$why")"; status=2; }
+    fi
+    clean
+    return "$status"
+}
+
 # Each listing to its own file. The status is the worst.
 each_to_file() { # FILES..; the program's words are in $passed
     refuse_clashes "$@"
@@ -249,13 +278,24 @@ quoted() { printf "'"; printf '%s' "$1" | LC_ALL=C sed "s/'/'\\\\''/g"; printf "
 
 takes_value() { case " ${valued-} " in *" $1 "*) return 0 ;; *) return 1 ;; esac }
 
+# Notes an option that takes a value: it goes to the program, or is a file that is written beside.
+keep() { # OPTION VALUE
+    case " ${filed-} " in
+    *" $1 "*)
+        [ -n "$2" ] || die "$1 wants a file (see --help)"
+        beside_option=$1 beside=$2
+        ;;
+    *) passed="$passed$(quoted "$1")$(quoted "$2")" ;;
+    esac
+}
+
 stands_bare() { case " ${bare-} " in *" $1 "*) return 0 ;; *) return 1 ;; esac }
 
 front() { # NAME WORDS..
     name=$1
     shift
     locate
-    folder='' unproved='' passed='' literal='' left=$#
+    folder='' unproved='' passed='' beside='' literal='' left=$#
     while [ "$left" -gt 0 ]; do
         word=$1 left=$((left - 1))
         shift
@@ -272,13 +312,14 @@ front() { # NAME WORDS..
             ;;
         --*=*)
             takes_value "${word%%=*}" || die "no such option: $word (see --help)"
-            passed="$passed$(quoted "${word%%=*}")$(quoted "${word#*=}")"
+            keep "${word%%=*}" "${word#*=}"
             ;;
         -?*)
             if stands_bare "$word"; then passed="$passed$(quoted "$word")"; continue; fi
             takes_value "$word" || die "no such option: $word (see --help; a file that begins with - stands behind --)"
             [ "$left" -gt 0 ] || die "$word wants a value (see --help)"
-            passed="$passed$(quoted "$word")$(quoted "$1")" left=$((left - 1))
+            keep "$word" "$1"
+            left=$((left - 1))
             shift
             ;;
         *) set -- "$@" "$word" ;;
@@ -304,11 +345,13 @@ serve() { # FILES..
     case $folder in -*) folder=./$folder ;; esac
     [ -n "$folder" ] || [ $# -le 1 ] || die 'more than one file is named: -o FOLDER gives each its own result'
     [ -z "$folder" ] || [ $# -gt 0 ] || die '-o wants the files to tidy (see --help)'
+    [ -z "$folder" ] || [ -z "$beside" ] || die "$beside_option is for one listing, and -o for many"
     guard
     if [ -n "$unproved" ]; then build_unproved; else build; fi
     [ -z "$unproved" ] || note 'this program is NOT PROVED: it was built without a proof'
     if [ -n "$folder" ]; then each_to_file "$@"; exit; fi
     [ $# -gt 0 ] || [ ! -t 0 ] || note 'reading standard input; Ctrl-D at the start of a line ends it'
+    if [ -n "$beside" ]; then one_and_beside "$@"; exit; fi
     eval "one $passed -- \"\$@\""
     exit
 }

@@ -2,18 +2,23 @@
 
     import optlines
     tidy = optlines.optimize(text)      # all passes over bytes
-    text = optlines.run_pass(5, text)   # one pass, 1 to 6
+    tidy = optlines.run_pass(5, text)   # one pass, 1 to 6
     tidy = optlines.optimize(text, optlines.STRICT)     # in strict mode
+    tidy.text       # the result, bytes
+    tidy.records    # where each line went: a list of Record(line, fate, output)
+    tidy.origins    # the same records as bytes, a record file of the form OL
 
-Both raise Refused where the library refuses. `call` works in lent buffers, a Work and a result
-buffer, and answers with numbers. Threads may call at once, each with buffers of its own (optimize
-and run_pass bring theirs); a call needs STACK bytes of stack. The library is for x86-64 Linux. It
-is the file OPTLINES_LIBRARY where that is set, else the one that `make lib` writes in the
-repository, else the installed one.
+Both raise Refused where the library refuses. `call` works in lent buffers, a Work, a result buffer
+and a record buffer, and answers with numbers. Threads may call at once, each with buffers of its
+own (optimize and run_pass bring theirs); a call needs STACK bytes of stack. The library is for
+x86-64 Linux. It is the file OPTLINES_LIBRARY where that is set, else the one that `make lib` writes
+in the repository, else the installed one.
 """
+import collections
 import ctypes
 import os
 import platform
+import struct
 import sys
 
 BYTES = 32769  # the stated size of each of the work buffers a to e
@@ -21,14 +26,20 @@ BLOCKS = 16384  # the stated size of the work buffer u, in numbers of 32 bits
 TEXT = 16384  # the most bytes of a text
 LINES = 1024  # the most lines of a text
 BRACKETS = 64  # the most bytes '[' of a line
+RECORD = 7  # the bytes of a record
+RECORDS = RECORD * LINES  # the bytes of a record buffer that is long enough for every text
+NO_LINE = 65535  # the line of the result that a record of a gone line has
 STACK = 131072  # bytes of stack that are enough for a call, as far as it was measured
 
 # The modes: how passes 1, 2 and 3 judge a value.
 (PLAIN, STRICT) = range(2)
 
 # The numbers of include/optlines.h.
-(DONE, BAD_PASS, TOO_LONG, SHORT_WORK, NOT_UTF8, TOO_MANY_LINES, CROWDED, SHORT_RESULT) = range(8)
-(CUT, OVERLONG, OUTSIDE, BAD_MODE) = range(9, 13)
+(DONE, BAD_PASS, TOO_LONG, SHORT_WORK, NOT_UTF8, TOO_MANY_LINES, CROWDED, SHORT_RESULT,
+ SHORT_RECORDS, CUT, OVERLONG, OUTSIDE, BAD_MODE) = range(13)
+
+# The fates: kept with equal bytes, kept with other bytes, its value in another line, gone.
+EQUAL, CHANGED, INSIDE, GONE = range(4)
 
 _WORDS = {
     BAD_PASS: "there is no such pass: they are 1 to 6",
@@ -38,14 +49,24 @@ _WORDS = {
     TOO_MANY_LINES: "the text has more than %d lines" % LINES,
     CROWDED: "line {line} has more than %d bytes '['" % BRACKETS,
     SHORT_RESULT: "the result needs {place} bytes of room",
+    SHORT_RECORDS: "the records need {place} bytes of room",
     CUT: "the text was cut: it ends within the character at byte {place}, counted from 0",
     OVERLONG: "the text has an overlong form: see byte {place}, counted from 0",
     OUTSIDE: "the text has a surrogate or a value above U+10FFFF: see byte {place}, counted from 0",
     BAD_MODE: "there is no such mode: they are 0 and 1",
 }
 _UNKNOWN = "refused with number {number} and place {place}, unknown to this module"
-_SONAME = "liboptlines.so.2"
+_SONAME = "liboptlines.so.3"
+_LAYOUT = struct.Struct("<2sHBH")  # the mark, the line, its fate, the line of the result
 _LARGEST = 2 ** (8 * ctypes.sizeof(ctypes.c_size_t)) - 1
+
+
+# Where a line of the text went: the line, its fate, and the line of the result that it stands as or
+# that finally holds its value, None where it is gone. Lines count from 0.
+Record = collections.namedtuple("Record", "line fate output")
+
+# What a call gives: the text, the records, and the same records as bytes.
+Tidy = collections.namedtuple("Tidy", "text records origins")
 
 
 class Refused(Exception):
@@ -91,8 +112,8 @@ def _load():
     buffer = [ctypes.c_void_p, ctypes.c_size_t]
     places = [ctypes.POINTER(ctypes.c_size_t)] * 2
     for entry, numbers in zip(entries, (1, 2)):
-        # the pass and the mode, or the mode; text, a to e, u, out; where length and place are stored
-        entry.argtypes = [ctypes.c_size_t] * numbers + [ctypes.c_char_p, ctypes.c_size_t] + 7 * buffer + places
+        # the pass and the mode, or the mode; text, a to e, u, out, orig; where length and place are stored
+        entry.argtypes = [ctypes.c_size_t] * numbers + [ctypes.c_char_p, ctypes.c_size_t] + 8 * buffer + places
         entry.restype = ctypes.c_uint8
     return entries
 
@@ -120,16 +141,29 @@ def _size(number):
     return number if 0 <= number <= _LARGEST else _LARGEST
 
 
-def call(number, text, work, out, mode=PLAIN):
+def record_bytes(text):
+    """How many bytes the records of a text take: RECORD for each line."""
+    return RECORD * (text.count(b"\n") + (text[-1:] not in (b"", b"\n")))
+
+
+def read_records(origins):
+    """What the bytes of records say, as a call wrote them: a list of Record."""
+    return [Record(line, fate, None if output == NO_LINE else output)
+            for _, line, fate, output in _LAYOUT.iter_unpack(origins)]
+
+
+def call(number, text, work, out, orig, mode=PLAIN):
     """Runs all passes (number 0) or one, 1 to 6, over bytes in lent buffers.
 
-    `work` is a Work, `out` a ctypes array of c_uint8. The answer is a tuple: the number of the
-    refusal or 0, how many bytes of `out` are the result, and the place.
+    `work` is a Work, `out` and `orig` are ctypes arrays of c_uint8. The answer is a tuple: the
+    number of the refusal or 0, how many bytes of `out` are the result, and the place. After 0 the
+    first record_bytes(text) bytes of `orig` are the records.
     """
     if not isinstance(text, bytes):
         raise TypeError("optlines: the text must be bytes, not %s" % type(text).__name__)
     length, place = ctypes.c_size_t(), ctypes.c_size_t()
-    lent = [text, len(text), *work.lent(), out, len(out), ctypes.byref(length), ctypes.byref(place)]
+    lent = [text, len(text), *work.lent(), out, len(out), orig, len(orig),
+            ctypes.byref(length), ctypes.byref(place)]
     if number == 0:
         answer = _optimize(_size(mode), *lent)
     else:
@@ -139,19 +173,21 @@ def call(number, text, work, out, mode=PLAIN):
 
 def _result(number, text, mode):
     out = (ctypes.c_uint8 * (2 * min(len(text), TEXT)))()
-    answer, length, place = call(number, text, Work(), out, mode)
+    orig = (ctypes.c_uint8 * RECORDS)()
+    answer, length, place = call(number, text, Work(), out, orig, mode)
     if answer != DONE:
         raise Refused(answer, place)
-    return ctypes.string_at(out, length)
+    origins = ctypes.string_at(orig, record_bytes(text))
+    return Tidy(ctypes.string_at(out, length), read_records(origins), origins)
 
 
 def optimize(text, mode=PLAIN):
-    """Runs all passes: the tidy text of a listing. Text and result are bytes."""
+    """Runs all passes over bytes: a Tidy, with the tidy text and where each line went."""
     return _result(0, text, mode)
 
 
 def run_pass(number, text, mode=PLAIN):
-    """Runs one pass, 1 to 6: the text that it gives. Text and result are bytes."""
+    """Runs one pass, 1 to 6, over bytes: a Tidy, with the text that it gives."""
     if number == 0:
         raise Refused(BAD_PASS, 0)
     return _result(number, text, mode)

@@ -1,5 +1,6 @@
 """Makes the calls of tests/c/calls.c again, through the module: every number with its place, the
-order of the checks, the limits from both sides, the passes, and every lent byte after each call.
+order of the checks, the limits from both sides, the passes, the records, and every lent byte after
+each call.
 
     python3 bindings/python/test_optlines.py
 """
@@ -23,6 +24,23 @@ ALL_EXACT = -1  # each work buffer is just as long as stated
 
 SAMPLE = b"function f(a) {\n  let r0, r1, r2;\n  r0 = a;\n  r1 = g(r0);\n  return r1;\n}\n"
 TIDY = b"function f(a) {\n  let r1 = g(a);\n  return r1;\n}\n"
+ORIGINS = "00 3- 21 11 02 03"
+GLOBALS = b"__runtime.DeclareGlobals(1);\nuse(a);\n"
+
+
+def said(records):
+    """The records that are said by the fate of each line and its line of the result, a digit or `-`
+    for none, as in "00 3- 11"; or, where it is a number, so many lines that are kept as they are."""
+    if isinstance(records, int):
+        return [o.Record(i, o.EQUAL, i) for i in range(records)]
+    return [o.Record(i, int(word[0]), None if word[1] == "-" else int(word[1]))
+            for i, word in enumerate(records.split())]
+
+
+def as_bytes(records):
+    low = lambda number: number.to_bytes(2, "little")
+    return b"".join(b"OL" + low(line) + bytes([fate]) + (b"\xff\xff" if output is None else low(output))
+                    for line, fate, output in records)
 
 
 def filled(kind, size):
@@ -47,12 +65,14 @@ class Lent:
     """Buffers with some room behind what is stated, filled; `shorter` is which work buffer, from
     1, is lent one element short, 0 for none, or ALL_EXACT."""
 
-    def __init__(self, shorter, room):
+    def __init__(self, shorter, room, records):
         self.whole = [filled(ctypes.c_uint8, o.BYTES + SPARE) for _ in range(5)]
         self.whole.append(filled(ctypes.c_uint32, o.BLOCKS + SPARE))
         self.out = filled(ctypes.c_uint8, ROOM + SPARE)
+        self.orig = filled(ctypes.c_uint8, o.RECORDS + SPARE)
         self.shorter = shorter
         self.result = Part(self.out, room)
+        self.records = Part(self.orig, records)
 
     def size(self, which):
         stated = o.BLOCKS if which == 6 else o.BYTES
@@ -76,74 +96,103 @@ class Lent:
 
 
 class Calls(unittest.TestCase):
-    def expect(self, number, text, wanted, result=b"", shorter=0, room=ROOM, mode=o.PLAIN):
-        lent = Lent(shorter, room)
-        answer = o.call(number, text, lent, lent.result, mode)
+    def expect(self, number, text, wanted, result=b"", origins="", shorter=0, room=ROOM,
+               records=o.RECORDS, mode=o.PLAIN):
+        lent = Lent(shorter, room, records)
+        answer = o.call(number, text, lent, lent.result, lent.records, mode)
         self.assertEqual(answer, wanted)
-        after = ctypes.string_at(lent.out, ROOM + SPARE)
-        self.assertEqual(after, result + bytes([FILLED]) * (ROOM + SPARE - len(result)))
-        self.assertTrue(lent.work_is(answer[0] in (o.DONE, o.SHORT_RESULT)), "a work buffer")
+        for buffer, front in ((lent.out, result), (lent.orig, as_bytes(said(origins)))):
+            rest = bytes([FILLED]) * (len(buffer) - len(front))
+            self.assertEqual(ctypes.string_at(buffer, len(buffer)), front + rest)
+        ran = answer[0] in (o.DONE, o.SHORT_RESULT, o.SHORT_RECORDS)
+        self.assertTrue(lent.work_is(ran), "a work buffer")
 
-    def becomes(self, number, text, result, **others):
-        self.expect(number, text, (o.DONE, len(result), 0), result, **others)
+    def becomes(self, number, text, result, origins, **others):
+        self.expect(number, text, (o.DONE, len(result), 0), result, origins, **others)
 
     def refused(self, number, text, refusal, place, **others):
         self.expect(number, text, (refusal, 0, place), **others)
 
     def test_results(self):
-        self.becomes(0, SAMPLE, TIDY)
-        self.becomes(0, b"", b"")
-        self.becomes(0, b"a\n\n", b"a\n")
-        self.becomes(1, b"let t1;\nt1 = 5;\nuse(t2);\n", b"let t1;\nuse(t2);\n")
+        self.becomes(0, SAMPLE, TIDY, ORIGINS)
+        self.becomes(0, b"", b"", "")
+        self.becomes(0, b"a\n\n", b"a\n", "00 01")
+        self.becomes(1, b"let t1;\nt1 = 5;\nuse(t2);\n", b"let t1;\nuse(t2);\n", "00 3- 01")
         self.becomes(2, b"r0 = a;\nr1 = r0;\nr2 = r1;\nuse(r2);\n",
-                     b"r0 = a;\nr1 = r0;\nuse(r1);\n")
-        self.becomes(3, b"phi1 = 2;\nphi2 = a;\nuse(phi2);\n", b"phi2 = a;\nuse(phi2);\n")
-        self.becomes(4, b"r3 = greet;\nr4 = 1;\nr3 = r3(r4);\nuse(r3);\n", b"use(greet(1));\n")
-        self.becomes(5, b"let r007, r1, r2;\nuse(r7, r1);\n", b"let r7, r1;\nuse(r7, r1);\n")
-        self.becomes(6, b"var x;\n  let r0;\n}\n  r0 = 1;\n", b"var x;\n}\n  let r0 = 1;\n")
+                     b"r0 = a;\nr1 = r0;\nuse(r1);\n", "00 01 22 12")
+        self.becomes(3, b"phi1 = 2;\nphi2 = a;\nuse(phi2);\n", b"phi2 = a;\nuse(phi2);\n",
+                     "3- 00 01")
+        self.becomes(4, b"r3 = greet;\nr4 = 1;\nr3 = r3(r4);\nuse(r3);\n", b"use(greet(1));\n",
+                     "20 20 20 10")
+        self.becomes(5, b"let r007, r1, r2;\nuse(r7, r1);\n", b"let r7, r1;\nuse(r7, r1);\n",
+                     "10 01")
+        self.becomes(6, b"var x;\n  let r0;\n}\n  r0 = 1;\n", b"var x;\n}\n  let r0 = 1;\n",
+                     "00 3- 01 12")
 
     def test_modes(self):
         call, link = b'= "a" + f() + "b";\n', b'= "http://x";\n'
         for number, names, head in ((1, (b"t0 ", b"t1 "), b"let t0, t1;\n"),
                                     (2, (b"r0 ", b"r1 "), b""), (0, (b"r0 ", b"r1 "), b"")):
             text = head + names[0] + call + names[1] + link
-            self.becomes(number, text, head + names[1] + link, mode=o.PLAIN)
-            self.becomes(number, text, head + names[0] + call, mode=o.STRICT)
+            plain, strict = ("00 3- 01", "00 01 3-") if head else ("3- 00", "00 3-")
+            self.becomes(number, text, head + names[1] + link, plain, mode=o.PLAIN)
+            self.becomes(number, text, head + names[0] + call, strict, mode=o.STRICT)
         phis = b'phi0 = "a" + f() + "b";\nphi1 = ["http://x"];\n'
-        self.becomes(3, phis, b'["http://x"];\n', mode=o.PLAIN)
-        self.becomes(3, phis, b'"a" + f() + "b";\n', mode=o.STRICT)
-        self.becomes(0, SAMPLE, TIDY, mode=o.STRICT)
+        self.becomes(3, phis, b'["http://x"];\n', "3- 10", mode=o.PLAIN)
+        self.becomes(3, phis, b'"a" + f() + "b";\n', "10 3-", mode=o.STRICT)
+        self.becomes(0, SAMPLE, TIDY, ORIGINS, mode=o.STRICT)
 
     def test_limits(self):
-        self.becomes(0, b"x" * o.TEXT, b"x" * o.TEXT)
+        self.becomes(0, b"x" * o.TEXT, b"x" * o.TEXT, 1)
         self.refused(0, b"x" * (o.TEXT + 1), o.TOO_LONG, o.TEXT)
         many = b"\n" * o.LINES
-        self.becomes(0, many, many[1:])
-        self.becomes(0, many, many[1:], shorter=ALL_EXACT)
+        self.becomes(0, many, many[1:], o.LINES)
+        self.becomes(0, many, many[1:], o.LINES, shorter=ALL_EXACT)
+        self.refused(0, many, o.SHORT_RECORDS, o.RECORDS, records=o.RECORDS - 1)
         self.refused(0, many + b"\n", o.TOO_MANY_LINES, o.LINES)
         crowd = b"a\n" + b"[" * o.BRACKETS
-        self.becomes(0, crowd, crowd)
+        self.becomes(0, crowd, crowd, 2)
         self.refused(0, crowd + b"[", o.CROWDED, 1)
-        self.becomes(0, SAMPLE, TIDY, room=len(TIDY))
+        self.becomes(0, SAMPLE, TIDY, ORIGINS, room=len(TIDY))
         self.refused(0, SAMPLE, o.SHORT_RESULT, len(TIDY), room=len(TIDY) - 1)
+
+    def test_records(self):
+        """Record buffers of just the length, one byte short, and of no bytes."""
+        for text, result, origins in (
+                (SAMPLE, TIDY, ORIGINS), (b"a\nb", b"a\nb", 2), (b"\n\n", b"\n", 2), (b"\n", b"\n", 1),
+                (GLOBALS, b"use(a);\n", "3- 00"), (b"let r0;\n", b"\n", "3-"),
+                (b"a\r\nb\r", b"a\nb\r", 2), (b"r0 = x;\nphi1 = r0;\n", b"\n", "3- 3-"),
+                (b"r0 = x;\nphi1 = f(r0);\n", b"f(x);\n", "20 10")):
+            need = o.RECORD * len(said(origins))
+            self.assertEqual(o.record_bytes(text), need)
+            for mode in (o.PLAIN, o.STRICT):
+                self.becomes(0, text, result, origins, records=need, mode=mode)
+                for number in range(7):
+                    for lent in (need - 1, 0):
+                        self.refused(number, text, o.SHORT_RECORDS, need, records=lent, mode=mode)
+        self.becomes(5, GLOBALS, GLOBALS, 2)
+        self.becomes(4, b"r1 = r1;\nuse(r1);\n", b"use(r1);\n", "20 00")
+        self.refused(0, SAMPLE, o.SHORT_RESULT, len(TIDY), room=len(TIDY) - 1, records=0)
+        self.refused(0, SAMPLE, o.SHORT_RECORDS, 42, room=len(TIDY), records=0)
+        self.becomes(0, b"", b"", "", room=0, records=0)
 
     def test_order(self):
         bad = b"\xff" * (o.TEXT + 1)
         self.refused(7, SAMPLE, o.BAD_PASS, 0)
         self.refused(2**64 - 1, SAMPLE, o.BAD_PASS, 0)
-        self.refused(7, bad, o.BAD_PASS, 0, shorter=1, room=0, mode=2)
+        self.refused(7, bad, o.BAD_PASS, 0, shorter=1, room=0, records=0, mode=2)
         for mode in (2, 2**64 - 1, 2**64, -1):
             self.refused(0, SAMPLE, o.BAD_MODE, 0, mode=mode)
-            self.refused(0, bad, o.BAD_MODE, 0, shorter=1, room=0, mode=mode)
-            self.refused(6, bad, o.BAD_MODE, 0, shorter=1, room=0, mode=mode)
-        self.refused(0, bad, o.TOO_LONG, o.TEXT, shorter=1, room=0)
-        self.refused(6, bad, o.TOO_LONG, o.TEXT, shorter=1, room=0)
+            self.refused(0, bad, o.BAD_MODE, 0, shorter=1, room=0, records=0, mode=mode)
+            self.refused(6, bad, o.BAD_MODE, 0, shorter=1, room=0, records=0, mode=mode)
+        self.refused(0, bad, o.TOO_LONG, o.TEXT, shorter=1, room=0, records=0)
+        self.refused(6, bad, o.TOO_LONG, o.TEXT, shorter=1, room=0, records=0)
         for shorter in range(1, 7):
-            self.refused(6, bad[:3], o.SHORT_WORK, 0, shorter=shorter, room=0)
+            self.refused(6, bad[:3], o.SHORT_WORK, 0, shorter=shorter, room=0, records=0)
         crowd = b"\n" * (o.LINES + 1) + b"[" * (o.BRACKETS + 1)
-        self.refused(0, crowd + b"\xff", o.NOT_UTF8, len(crowd), room=0)
-        self.refused(0, crowd, o.TOO_MANY_LINES, o.LINES, room=0)
-        self.refused(0, crowd[1 + o.LINES - 7:], o.CROWDED, 7, room=0)
+        self.refused(0, crowd + b"\xff", o.NOT_UTF8, len(crowd), room=0, records=0)
+        self.refused(0, crowd, o.TOO_MANY_LINES, o.LINES, room=0, records=0)
+        self.refused(0, crowd[1 + o.LINES - 7:], o.CROWDED, 7, room=0, records=0)
         self.refused(0, b"ab\xe2\x82\n", o.NOT_UTF8, 2)
         self.refused(0, b"ab\xe2\x82", o.CUT, 2)
         self.refused(0, b"ab\xc0\x80", o.OVERLONG, 2)
@@ -152,9 +201,9 @@ class Calls(unittest.TestCase):
     def test_nothing_lent(self):
         """Null pointers where the length is 0."""
         self.refused(0, SAMPLE, o.SHORT_RESULT, len(TIDY), room=0)
-        self.becomes(0, b"", b"", room=0)
+        self.becomes(0, b"", b"", "", room=0)
         length, place = ctypes.c_size_t(1), ctypes.c_size_t(1)
-        nothing = [None, 0] * 8 + [ctypes.byref(length), ctypes.byref(place)]
+        nothing = [None, 0] * 9 + [ctypes.byref(length), ctypes.byref(place)]
         for entry, number in ((o._optimize, o.SHORT_WORK), (o._run_pass, o.BAD_PASS)):
             length.value = place.value = 1
             first = [0, o.PLAIN] if entry is o._run_pass else [o.PLAIN]
@@ -165,13 +214,26 @@ class Calls(unittest.TestCase):
 class Module(unittest.TestCase):
     """optimize and run_pass, their errors, and how the library is found."""
 
+    def gives(self, tidy, text, origins):
+        records = said(origins)
+        self.assertEqual(tidy, o.Tidy(text, records, as_bytes(records)))
+
     def test_results(self):
-        self.assertEqual(o.optimize(SAMPLE), TIDY)
-        self.assertEqual(o.optimize(b""), b"")
-        self.assertEqual(o.run_pass(6, b"let r0;\nr0 = 1;\n"), b"let r0 = 1;\n")
+        self.gives(o.optimize(SAMPLE), TIDY, ORIGINS)
+        self.gives(o.optimize(b""), b"", "")
+        self.gives(o.optimize(b"\n" * o.LINES), b"\n" * (o.LINES - 1), o.LINES)
+        self.gives(o.run_pass(6, b"let r0;\nr0 = 1;\n"), b"let r0 = 1;\n", "3- 10")
         link = b'r0 = "http://x";\nkeep();\n'
-        self.assertEqual((o.optimize(link), o.optimize(link, o.STRICT)), (link, b"keep();\n"))
-        self.assertEqual((o.run_pass(2, link), o.run_pass(2, link, o.STRICT)), (link, b"keep();\n"))
+        for run in (o.optimize, lambda *given: o.run_pass(2, *given)):
+            self.gives(run(link), link, 2)
+            self.gives(run(link, o.STRICT), b"keep();\n", "3- 00")
+
+    def test_records(self):
+        tidy = o.optimize(SAMPLE)
+        self.assertEqual(tidy.records[2], (2, o.INSIDE, 1))
+        self.assertEqual((tidy.records[1].fate, tidy.records[1].output), (o.GONE, None))
+        self.assertEqual(o.read_records(b"OL\1\2\1\3\1"), [o.Record(513, o.CHANGED, 259)])
+        self.assertEqual(o.read_records(b""), [])
 
     def raises(self, number, place, words, run, *given):
         with self.assertRaises(o.Refused) as caught:
@@ -202,19 +264,21 @@ class Module(unittest.TestCase):
                     o.optimize, many)
         self.raises(o.CROWDED, 1, "line 2 has more than 64 bytes '['",
                     o.optimize, b"a\n" + b"[" * (o.BRACKETS + 1))
+        self.assertEqual(str(o.Refused(o.SHORT_RECORDS, 42)), "the records need 42 bytes of room")
         unknown = "refused with number 99 and place 5, unknown to this module"
         self.assertEqual(str(o.Refused(99, 5)), unknown)
 
     def test_text_must_be_bytes(self):
         for wrong in ("let r0;", None, bytearray(b"a")):
-            self.assertRaises(TypeError, o.call, 0, wrong, o.Work(), filled(ctypes.c_uint8, 1))
+            one = filled(ctypes.c_uint8, 1)
+            self.assertRaises(TypeError, o.call, 0, wrong, o.Work(), one, one)
         self.assertRaises(TypeError, o.optimize, "let r0;")
 
     def test_threads(self):
         others = []
 
         def repeat(text, result):
-            others.extend(1 for _ in range(200) if o.optimize(text) != result)
+            others.extend(1 for _ in range(200) if o.optimize(text).text != result)
 
         call = b"r3 = greet;\nr4 = 1;\nr3 = r3(r4);\nuse(r3);\n"
         pairs = ((SAMPLE, TIDY), (call, b"use(greet(1));\n"))
@@ -233,8 +297,8 @@ class Module(unittest.TestCase):
         return ran.stderr.decode()
 
     def test_no_library(self):
-        said = self.imported("", OPTLINES_LIBRARY="/nowhere/liboptlines.so.2")
-        self.assertIn("ImportError: optlines: cannot load /nowhere/liboptlines.so.2", said)
+        said = self.imported("", OPTLINES_LIBRARY="/nowhere/liboptlines.so.3")
+        self.assertIn("ImportError: optlines: cannot load /nowhere/liboptlines.so.3", said)
         self.assertIn("run `make lib` in the repository, or set OPTLINES_LIBRARY", said)
 
     def test_another_library(self):
@@ -257,13 +321,14 @@ class Header(unittest.TestCase):
     def test_defines(self):
         found = re.findall(r"^#define OPTLINES_(\w+) (.+)$", self.text, re.M)
         self.assertEqual(sorted(name for name, _ in found),
-                         ["BLOCKS", "BRACKETS", "BYTES", "LINES", "PLAIN", "STACK", "STRICT", "TEXT"])
+                         ["BLOCKS", "BRACKETS", "BYTES", "LINES", "NO_LINE", "PLAIN", "RECORD",
+                          "RECORDS", "STACK", "STRICT", "TEXT"])
         for name, value in found:
             self.assertEqual(getattr(o, name), int(value), name)
 
     def test_numbers(self):
         found = re.findall(r"^    OPTLINES_(\w+) = (\d+)", self.text, re.M)
-        self.assertEqual(len(found), 13)
+        self.assertEqual(len(found), 14 + 4)  # the numbers and the fates
         for name, value in found:
             if name != "OVERLAP":  # of the inline function for C alone
                 self.assertEqual(getattr(o, name), int(value), name)

@@ -6,9 +6,11 @@
 //! bytes of stack.
 //!
 //! ```
-//! use optlines::{optimize, Mode};
+//! use optlines::{optimize, Fate, Mode};
 //! let tidy = optimize(Mode::Plain, b"r3 = greet;\nr4 = 1;\nr3 = r3(r4);\nuse(r3);\n")?;
-//! assert_eq!(tidy, b"use(greet(1));\n");
+//! assert_eq!(tidy.text, b"use(greet(1));\n");
+//! assert_eq!(tidy.records[0].fate, Fate::Inside); // the value of line 0 stands in line 0
+//! assert_eq!(tidy.records[0].output, Some(0));
 //! # Ok::<(), optlines::Refusal>(())
 //! ```
 
@@ -29,6 +31,10 @@ pub const TEXT: usize = 16_384;
 pub const LINES: usize = 1_024;
 /// The most bytes `[` of a line.
 pub const BRACKETS: usize = 64;
+/// The bytes of a record.
+pub const RECORD: usize = 7;
+/// The bytes of a record buffer that is long enough for every text.
+pub const RECORDS: usize = RECORD * LINES;
 /// Bytes of stack that are enough for a call, as far as it was measured.
 pub const STACK: usize = 131_072;
 
@@ -42,6 +48,62 @@ pub enum Mode {
     /// A value in quotes is a string only where its opening quote is closed by its last character;
     /// what stands in quotes is no comment.
     Strict = 1,
+}
+
+/// What became of a line of the text.
+#[derive(Clone, Copy, Debug, PartialEq, Eq)]
+pub enum Fate {
+    /// It is kept with equal bytes.
+    Equal = 0,
+    /// It is kept with other bytes.
+    Changed = 1,
+    /// Its value was taken into another line.
+    Inside = 2,
+    /// It is gone.
+    Gone = 3,
+}
+
+/// Where a line of the text went. Lines count from 0.
+#[derive(Clone, Copy, Debug, PartialEq, Eq)]
+pub struct Record {
+    /// The line of the text.
+    pub line: usize,
+    /// What became of it.
+    pub fate: Fate,
+    /// The line of the result that it stands as, or that finally holds its value; none where it is
+    /// gone.
+    pub output: Option<usize>,
+}
+
+impl Record {
+    /// The record with these bytes, as the library writes them.
+    fn of(bytes: &[u8; RECORD]) -> Record {
+        let [_, _, line, line_high, fate, output, output_high] = *bytes;
+        let output = usize::from(u16::from_le_bytes([output, output_high]));
+        let (fate, output) = match fate {
+            0 => (Fate::Equal, Some(output)),
+            1 => (Fate::Changed, Some(output)),
+            2 => (Fate::Inside, Some(output)),
+            _ => (Fate::Gone, None),
+        };
+        Record {
+            line: usize::from(u16::from_le_bytes([line, line_high])),
+            fate,
+            output,
+        }
+    }
+}
+
+/// What a call gives.
+#[derive(Clone, Debug, PartialEq, Eq)]
+#[non_exhaustive]
+pub struct Tidy {
+    /// The result.
+    pub text: Vec<u8>,
+    /// Where each line of the text went, in order.
+    pub records: Vec<Record>,
+    /// The same records as bytes: a record file of the form `OL`.
+    pub origins: Vec<u8>,
 }
 
 /// Why there is no result.
@@ -63,6 +125,9 @@ pub enum Refusal {
     Crowded(usize),
     /// The result buffer is shorter than the result: the length needed.
     ShortResult(usize),
+    /// The record buffer is shorter than [`RECORD`] bytes for each line of the text: the length
+    /// needed.
+    ShortRecords(usize),
     /// The text ends within a character, so it was cut: the first byte of that character, from 0.
     Cut(usize),
     /// The text has an overlong form: its first byte, from 0.
@@ -92,6 +157,7 @@ impl Refusal {
             5 => Refusal::TooManyLines,
             6 => Refusal::Crowded(place),
             7 => Refusal::ShortResult(place),
+            8 => Refusal::ShortRecords(place),
             9 => Refusal::Cut(place),
             10 => Refusal::Overlong(place),
             11 => Refusal::Outside(place),
@@ -110,6 +176,7 @@ impl Refusal {
             Refusal::TooManyLines => 5,
             Refusal::Crowded(_) => 6,
             Refusal::ShortResult(_) => 7,
+            Refusal::ShortRecords(_) => 8,
             Refusal::Cut(_) => 9,
             Refusal::Overlong(_) => 10,
             Refusal::Outside(_) => 11,
@@ -127,6 +194,7 @@ impl Refusal {
             Refusal::NotUtf8(place)
             | Refusal::Crowded(place)
             | Refusal::ShortResult(place)
+            | Refusal::ShortRecords(place)
             | Refusal::Cut(place)
             | Refusal::Overlong(place)
             | Refusal::Outside(place)
@@ -153,6 +221,7 @@ impl fmt::Display for Refusal {
                 )
             }
             Refusal::ShortResult(need) => write!(f, "the result needs {need} bytes of room"),
+            Refusal::ShortRecords(need) => write!(f, "the records need {need} bytes of room"),
             Refusal::Cut(at) => {
                 write!(
                     f,
@@ -215,6 +284,7 @@ mod raw {
                     e: *mut u8, e_length: usize,
                     u: *mut u32, u_length: usize,
                     out: *mut u8, out_length: usize,
+                    orig: *mut u8, orig_length: usize,
                     length: *mut usize, place: *mut usize,
                 ) -> u8;)*
             }
@@ -230,7 +300,7 @@ mod raw {
 /// Calls one of the two. The slices are alive and apart from one another, which is all that the
 /// library asks.
 macro_rules! call {
-    ($name:ident($($first:expr),*), $text:ident, $work:ident, $out:ident) => {{
+    ($name:ident($($first:expr),*), $text:ident, $work:ident, $out:ident, $orig:ident) => {{
         let (mut length, mut place) = (0, 0);
         let number = unsafe {
             raw::$name(
@@ -243,6 +313,7 @@ macro_rules! call {
                 $work.e.as_mut_ptr(), $work.e.len(),
                 $work.u.as_mut_ptr(), $work.u.len(),
                 $out.as_mut_ptr(), $out.len(),
+                $orig.as_mut_ptr(), $orig.len(),
                 &mut length, &mut place,
             )
         };
@@ -253,36 +324,60 @@ macro_rules! call {
     }};
 }
 
-/// Runs all passes in lent buffers: how many bytes of `out` are the result.
+/// How many bytes the records of a text take: [`RECORD`] for each line.
+pub fn record_bytes(text: &[u8]) -> usize {
+    let ends = text.iter().filter(|b| **b == b'\n').count();
+    let rest = text.last().is_some_and(|b| *b != b'\n');
+    RECORD * (ends + usize::from(rest))
+}
+
+/// What the bytes of records say, as a call wrote them.
+pub fn records_in(origins: &[u8]) -> impl Iterator<Item = Record> + '_ {
+    let whole = origins.chunks_exact(RECORD);
+    whole.filter_map(|bytes| bytes.try_into().ok().map(Record::of))
+}
+
+/// Runs all passes in lent buffers: how many bytes of `out` are the result. The first
+/// [`record_bytes`] of `orig` are its records.
 pub fn optimize_in(
     mode: Mode,
     text: &[u8],
     work: &mut Work,
     out: &mut [u8],
+    orig: &mut [u8],
 ) -> Result<usize, Refusal> {
-    call!(optlines_optimize(mode as usize), text, work, out)
+    call!(optlines_optimize(mode as usize), text, work, out, orig)
 }
 
-/// Runs one pass, 1 to 6, in lent buffers: how many bytes of `out` are the result.
+/// Runs one pass, 1 to 6, in lent buffers: how many bytes of `out` are the result. The first
+/// [`record_bytes`] of `orig` are its records.
 pub fn run_pass_in(
     pass: usize,
     mode: Mode,
     text: &[u8],
     work: &mut Work,
     out: &mut [u8],
+    orig: &mut [u8],
 ) -> Result<usize, Refusal> {
-    call!(optlines_run_pass(pass, mode as usize), text, work, out)
+    call!(
+        optlines_run_pass(pass, mode as usize),
+        text,
+        work,
+        out,
+        orig
+    )
 }
 
-/// Lends fresh buffers to `run`. No result is longer than twice its text, so none is refused for
-/// want of room.
+/// Lends fresh buffers to `run`. No result is longer than twice its text, and no text has more than
+/// [`LINES`] lines, so none is refused for want of room.
 fn with_room(
     text: &[u8],
-    run: impl FnOnce(&mut Work, &mut [u8]) -> Result<usize, Refusal>,
-) -> Result<Vec<u8>, Refusal> {
+    run: impl FnOnce(&mut Work, &mut [u8], &mut [u8]) -> Result<usize, Refusal>,
+) -> Result<Tidy, Refusal> {
     let [mut a, mut b, mut c, mut d, mut e] = [(); 5].map(|()| vec![0; BYTES]);
     let mut u = vec![0; BLOCKS];
     let mut out = vec![0; 2 * text.len().min(TEXT)];
+    let mut origins = vec![0; record_bytes(text).min(RECORDS)];
     let mut work = Work {
         a: &mut a,
         b: &mut b,
@@ -291,24 +386,32 @@ fn with_room(
         e: &mut e,
         u: &mut u,
     };
-    let length = run(&mut work, &mut out)?;
+    let length = run(&mut work, &mut out, &mut origins)?;
     out.truncate(length);
-    Ok(out)
+    Ok(Tidy {
+        text: out,
+        records: records_in(&origins).collect(),
+        origins,
+    })
 }
 
-/// Runs all passes: the tidy text.
-pub fn optimize(mode: Mode, text: &[u8]) -> Result<Vec<u8>, Refusal> {
-    with_room(text, |work, out| optimize_in(mode, text, work, out))
+/// Runs all passes: the tidy text, and where each line went.
+pub fn optimize(mode: Mode, text: &[u8]) -> Result<Tidy, Refusal> {
+    with_room(text, |work, out, orig| {
+        optimize_in(mode, text, work, out, orig)
+    })
 }
 
-/// Runs one pass, 1 to 6: the text that it gives.
-pub fn run_pass(pass: usize, mode: Mode, text: &[u8]) -> Result<Vec<u8>, Refusal> {
-    with_room(text, |work, out| run_pass_in(pass, mode, text, work, out))
+/// Runs one pass, 1 to 6: the text that it gives, and where each line went.
+pub fn run_pass(pass: usize, mode: Mode, text: &[u8]) -> Result<Tidy, Refusal> {
+    with_room(text, |work, out, orig| {
+        run_pass_in(pass, mode, text, work, out, orig)
+    })
 }
 
 #[cfg(test)]
 mod tests {
-    use super::{raw, with_room, Refusal};
+    use super::{raw, record_bytes, records_in, with_room, Fate, Record, Refusal};
 
     /// Every number and place comes back as it was answered, a number of a later library too.
     #[test]
@@ -326,10 +429,35 @@ mod tests {
         for (number, place) in answers.into_iter().chain(later) {
             let refusal = Refusal::of(number, place).expect("a refusal");
             assert_eq!((refusal.number(), refusal.place()), (number, place));
-            let known = matches!(number, 1..=7 | 9..=12);
+            let known = matches!(number, 1..=12);
             assert_eq!(!known, refusal == Refusal::Other { number, place });
         }
         assert_eq!(Refusal::of(0, 0), None);
+    }
+
+    /// Lines are counted as the library counts them, and records are read low byte first.
+    #[test]
+    fn records() {
+        let texts: [(&[u8], usize); 6] = [
+            (b"", 0),
+            (b"\n", 7),
+            (b"a", 7),
+            (b"a\n", 7),
+            (b"a\r\nb\r", 14),
+            (b"a\n\n", 14),
+        ];
+        for (text, bytes) in texts {
+            assert_eq!(record_bytes(text), bytes, "{text:?}");
+        }
+        let said = |line, fate, output| Record { line, fate, output };
+        let file = b"OL\x01\x02\x00\x03\x01OL\x02\x02\x01\x04\x01OL\x03\x02\x02\x00\x00OL\x04\x02\x03\xff\xff";
+        let wanted = [
+            said(513, Fate::Equal, Some(259)),
+            said(514, Fate::Changed, Some(260)),
+            said(515, Fate::Inside, Some(0)),
+            said(516, Fate::Gone, None),
+        ];
+        assert_eq!(records_in(file).collect::<Vec<_>>(), wanted);
     }
 
     /// Numbers that no [`super::Mode`] has: 12 comes just after 1.
@@ -337,13 +465,13 @@ mod tests {
     fn modes_that_are_not_there() {
         let bad: &[u8] = b"\xFF";
         for mode in [2, 3, usize::MAX] {
-            let whole = with_room(bad, |work, out| {
-                call!(optlines_optimize(mode), bad, work, out)
+            let whole = with_room(bad, |work, out, orig| {
+                call!(optlines_optimize(mode), bad, work, out, orig)
             });
             assert_eq!(whole, Err(Refusal::BadMode));
             for (pass, refusal) in [(6, Refusal::BadMode), (7, Refusal::BadPass)] {
-                let one = with_room(bad, |work, out| {
-                    call!(optlines_run_pass(pass, mode), bad, work, out)
+                let one = with_room(bad, |work, out, orig| {
+                    call!(optlines_run_pass(pass, mode), bad, work, out, orig)
                 });
                 assert_eq!(one, Err(refusal));
             }

@@ -1,24 +1,93 @@
-//! Calls the library through the wrapper: the sample, each pass, each mode, every refusal, its
-//! words, and the lent bytes after each call.
+//! Calls the library through the wrapper: the sample, each pass, each mode, the records, every
+//! refusal, its words, and the lent bytes after each call.
 
-use optlines::{optimize, optimize_in, run_pass, run_pass_in};
-use optlines::{Mode, Refusal, Work, BLOCKS, BRACKETS, BYTES, LINES, STACK, TEXT};
+use optlines::{optimize, optimize_in, record_bytes, records_in, run_pass, run_pass_in};
+use optlines::{Fate, Mode, Record, Refusal, Tidy, Work};
+use optlines::{BLOCKS, BRACKETS, BYTES, LINES, RECORDS, STACK, TEXT};
 use std::error::Error;
 use std::thread;
 
 const SAMPLE: &[u8] =
     b"function f(a) {\n  let r0, r1, r2;\n  r0 = a;\n  r1 = g(r0);\n  return r1;\n}\n";
 const TIDY: &[u8] = b"function f(a) {\n  let r1 = g(a);\n  return r1;\n}\n";
+const ORIGINS: &str = "00 3- 21 11 02 03";
 
 const SPARE: usize = 8;
 const FILLED: u8 = 0xA5;
 const FILLED_BLOCK: u32 = 0xA5A5_A5A5;
+
+/// The records that are said by the fate of each line and its line of the result, a digit or `-`
+/// for none, as in `00 3- 11`.
+fn said(records: &str) -> Vec<Record> {
+    let fates = [Fate::Equal, Fate::Changed, Fate::Inside, Fate::Gone];
+    let digit = |c: u8| char::from(c).to_digit(10).map(|d| d as usize);
+    let each = records.split_whitespace().map(str::as_bytes).enumerate();
+    each.map(|(line, word)| Record {
+        line,
+        fate: fates[digit(word[0]).expect("a fate")],
+        output: digit(word[1]),
+    })
+    .collect()
+}
+
+/// The records as bytes.
+fn bytes_of(records: &[Record]) -> Vec<u8> {
+    let low = |n: usize| u16::try_from(n).expect("a line").to_le_bytes();
+    let one = |r: &Record| {
+        let output = r.output.unwrap_or(65_535);
+        [b"OL", &low(r.line)[..], &[r.fate as u8], &low(output)].concat()
+    };
+    records.iter().flat_map(one).collect()
+}
+
+/// Each line is kept, with equal bytes.
+fn kept(lines: usize) -> Vec<Record> {
+    let record = |line| Record {
+        line,
+        fate: Fate::Equal,
+        output: Some(line),
+    };
+    (0..lines).map(record).collect()
+}
+
+/// Checks what a call with buffers of its own gives.
+fn gives(got: Result<Tidy, Refusal>, text: &[u8], records: Vec<Record>) {
+    let tidy = got.expect("a result");
+    assert_eq!(tidy.text, text);
+    assert_eq!(tidy.origins, bytes_of(&records));
+    assert_eq!(tidy.records, records);
+}
+
+/// One call: which pass, 0 for all, the text, which work buffer, from 1, is lent one element short,
+/// and how much of the result buffer and of the record buffer is lent.
+#[derive(Clone, Copy)]
+struct Call<'a> {
+    pass: usize,
+    text: &'a [u8],
+    short: usize,
+    room: usize,
+    records: usize,
+}
+
+impl Call<'_> {
+    /// A call with buffers that are long enough.
+    fn of(pass: usize, text: &[u8]) -> Call<'_> {
+        Call {
+            pass,
+            text,
+            short: 0,
+            room: 2 * TEXT,
+            records: RECORDS,
+        }
+    }
+}
 
 /// Buffers with some room behind what is stated, filled.
 struct Room {
     bytes: [Vec<u8>; 5],
     blocks: Vec<u32>,
     out: Vec<u8>,
+    orig: Vec<u8>,
 }
 
 impl Room {
@@ -27,21 +96,14 @@ impl Room {
             bytes: [(); 5].map(|()| vec![FILLED; BYTES + SPARE]),
             blocks: vec![FILLED_BLOCK; BLOCKS + SPARE],
             out: vec![FILLED; 2 * TEXT],
+            orig: vec![FILLED; RECORDS + SPARE],
         }
     }
 
-    /// Runs all passes (0) or one. `short`: which work buffer, from 1, is lent one element short;
-    /// `room`: how much of the result buffer is lent.
-    fn ask(
-        &mut self,
-        pass: usize,
-        mode: Mode,
-        text: &[u8],
-        short: usize,
-        room: usize,
-    ) -> Result<usize, Refusal> {
+    /// Makes a call.
+    fn ask(&mut self, mode: Mode, call: Call) -> Result<usize, Refusal> {
         let lent = |which, stated| {
-            if which == short {
+            if which == call.short {
                 stated - 1
             } else {
                 stated + SPARE
@@ -56,17 +118,20 @@ impl Room {
             e: &mut e[..lent(5, BYTES)],
             u: &mut self.blocks[..lent(6, BLOCKS)],
         };
-        let out = &mut self.out[..room];
-        if pass == 0 {
-            optimize_in(mode, text, &mut work, out)
+        let (out, orig) = (&mut self.out[..call.room], &mut self.orig[..call.records]);
+        if call.pass == 0 {
+            optimize_in(mode, call.text, &mut work, out, orig)
         } else {
-            run_pass_in(pass, mode, text, &mut work, out)
+            run_pass_in(call.pass, mode, call.text, &mut work, out, orig)
         }
     }
 
-    /// Every lent byte is as include/optlines.h says.
-    fn is_as_said(&self, answer: Result<usize, Refusal>) -> bool {
-        let ran = matches!(answer, Ok(_) | Err(Refusal::ShortResult(_)));
+    /// Every lent byte is as include/optlines.h says; so many bytes are records.
+    fn is_as_said(&self, answer: Result<usize, Refusal>, records: usize) -> bool {
+        let ran = matches!(
+            answer,
+            Ok(_) | Err(Refusal::ShortResult(_) | Refusal::ShortRecords(_))
+        );
         let (zeros, zero_blocks) = if ran { (BYTES, BLOCKS) } else { (0, 0) };
         let are = |s: &[u8], byte: u8| s.iter().all(|b| *b == byte);
         let after = |s: &[u8], n: usize| are(&s[..n], 0) && are(&s[n..], FILLED);
@@ -76,74 +141,86 @@ impl Room {
                 .iter()
                 .all(|b| *b == FILLED_BLOCK)
             && are(&self.out[answer.unwrap_or(0)..], FILLED)
+            && are(&self.orig[records..], FILLED)
     }
 }
 
-/// One call in each mode in fresh lent buffers: what it answers, its result, and that memory is as
-/// said.
-fn expect(pass: usize, text: &[u8], short: usize, room: usize, want: Result<&[u8], Refusal>) {
+/// One call in each mode in fresh lent buffers: what it answers, its result, its records, and that
+/// memory is as said.
+fn expect(call: Call, want: Result<(&[u8], &[Record]), Refusal>) {
     for mode in [Mode::Plain, Mode::Strict] {
-        expect_in(mode, pass, text, short, room, want);
+        expect_in(mode, call, want);
     }
 }
 
 /// The same in one mode.
-fn expect_in(
-    mode: Mode,
-    pass: usize,
-    text: &[u8],
-    short: usize,
-    room: usize,
-    want: Result<&[u8], Refusal>,
-) {
+fn expect_in(mode: Mode, call: Call, want: Result<(&[u8], &[Record]), Refusal>) {
     let mut buffers = Room::new();
-    let got = buffers.ask(pass, mode, text, short, room);
-    assert_eq!(got.map(|n| &buffers.out[..n]), want);
+    let got = buffers.ask(mode, call);
+    let told = got.map_or(0, |_| record_bytes(call.text));
+    let records: Vec<Record> = records_in(&buffers.orig[..told]).collect();
+    assert_eq!(got.map(|n| (&buffers.out[..n], &records[..])), want);
+    assert_eq!(buffers.orig[..told], bytes_of(&records));
     assert!(
-        buffers.is_as_said(got),
+        buffers.is_as_said(got, told),
         "a lent byte is not as said after {got:?}"
     );
 }
 
+fn refused(call: Call, refusal: Refusal) {
+    expect(call, Err(refusal));
+}
+
 #[test]
 fn the_sample() {
-    assert_eq!(optimize(Mode::Plain, SAMPLE).as_deref(), Ok(TIDY));
-    expect(0, SAMPLE, 0, TIDY.len(), Ok(TIDY));
-    assert_eq!(optimize(Mode::Plain, b"").as_deref(), Ok(&b""[..]));
+    let records = said(ORIGINS);
+    gives(optimize(Mode::Plain, SAMPLE), TIDY, records.clone());
+    let call = Call {
+        room: TIDY.len(),
+        ..Call::of(0, SAMPLE)
+    };
+    expect(call, Ok((TIDY, &records)));
+    gives(optimize(Mode::Plain, b""), b"", vec![]);
 }
 
 #[test]
 fn one_pass() {
-    let listings: [(&[u8], &[u8]); 6] = [
-        (b"let t1;\nt1 = 5;\nuse(t2);\n", b"let t1;\nuse(t2);\n"),
+    let listings: [(&[u8], &[u8], &str); 6] = [
+        (
+            b"let t1;\nt1 = 5;\nuse(t2);\n",
+            b"let t1;\nuse(t2);\n",
+            "00 3- 01",
+        ),
         (
             b"r0 = a;\nr1 = r0;\nr2 = r1;\nuse(r2);\n",
             b"r0 = a;\nr1 = r0;\nuse(r1);\n",
+            "00 01 22 12",
         ),
         (
             b"phi1 = 2;\nphi2 = a;\nuse(phi2);\n",
             b"phi2 = a;\nuse(phi2);\n",
+            "3- 00 01",
         ),
         (
             b"r3 = greet;\nr4 = 1;\nr3 = r3(r4);\nuse(r3);\n",
             b"use(greet(1));\n",
+            "20 20 20 10",
         ),
         (
             b"let r007, r1, r2;\nuse(r7, r1);\n",
             b"let r7, r1;\nuse(r7, r1);\n",
+            "10 01",
         ),
         (
             b"var x;\n  let r0;\n}\n  r0 = 1;\n",
             b"var x;\n}\n  let r0 = 1;\n",
+            "00 3- 01 12",
         ),
     ];
-    for (pass, (text, result)) in (1..).zip(listings) {
-        assert_eq!(
-            run_pass(pass, Mode::Plain, text).as_deref(),
-            Ok(result),
-            "pass {pass}"
-        );
-        expect(pass, text, 0, 2 * TEXT, Ok(result));
+    for (pass, (text, result, records)) in (1..).zip(listings) {
+        let records = said(records);
+        gives(run_pass(pass, Mode::Plain, text), result, records.clone());
+        expect(Call::of(pass, text), Ok((result, &records)));
     }
 }
 
@@ -155,13 +232,82 @@ fn modes() {
         &b"r1 = \"http://x\";\n"[..],
     );
     let text = [sum, string].concat();
-    for (mode, left) in [(Mode::Plain, string), (Mode::Strict, sum)] {
-        assert_eq!(optimize(mode, &text).as_deref(), Ok(left), "{mode:?}");
-        assert_eq!(run_pass(2, mode, &text).as_deref(), Ok(left), "{mode:?}");
-        expect_in(mode, 0, &text, 0, 2 * TEXT, Ok(left));
-        expect_in(mode, 2, &text, 0, 2 * TEXT, Ok(left));
+    for (mode, left, records) in [
+        (Mode::Plain, string, said("3- 00")),
+        (Mode::Strict, sum, said("00 3-")),
+    ] {
+        gives(optimize(mode, &text), left, records.clone());
+        gives(run_pass(2, mode, &text), left, records.clone());
+        expect_in(mode, Call::of(0, &text), Ok((left, &records)));
+        expect_in(mode, Call::of(2, &text), Ok((left, &records)));
     }
     assert_eq!(Mode::default(), Mode::Plain);
+}
+
+/// Lines that are removed, that go with the line that took them in, and that end in CR.
+#[test]
+fn records() {
+    let listings: [(&[u8], &[u8], &str); 5] = [
+        (
+            b"__runtime.DeclareGlobals(1);\nuse(a);\n",
+            b"use(a);\n",
+            "3- 00",
+        ),
+        (b"r0 = x;\nphi1 = r0;\n", b"\n", "3- 3-"),
+        (b"r0 = x;\nphi1 = f(r0);\n", b"f(x);\n", "20 10"),
+        (b"a\r\nb\r", b"a\nb\r", "00 01"),
+        (b"a\n\n", b"a\n", "00 01"),
+    ];
+    for (text, result, records) in listings {
+        gives(optimize(Mode::Plain, text), result, said(records));
+    }
+}
+
+/// Refusal 8: one byte short, just enough, and 7 before it.
+#[test]
+fn short_records() {
+    let records = said(ORIGINS);
+    for pass in 0..=6 {
+        for lent in [0, 41] {
+            let call = Call {
+                records: lent,
+                ..Call::of(pass, SAMPLE)
+            };
+            refused(call, Refusal::ShortRecords(42));
+        }
+    }
+    let exact = Call {
+        room: TIDY.len(),
+        records: 42,
+        ..Call::of(0, SAMPLE)
+    };
+    expect(exact, Ok((TIDY, &records)));
+    let both = Call {
+        room: TIDY.len() - 1,
+        records: 41,
+        ..exact
+    };
+    refused(both, Refusal::ShortResult(TIDY.len()));
+    let nothing = Call {
+        room: 0,
+        records: 0,
+        ..Call::of(0, b"")
+    };
+    expect(nothing, Ok((b"", &[])));
+    let unended = Call {
+        records: 13,
+        ..Call::of(0, b"a\nb")
+    };
+    refused(unended, Refusal::ShortRecords(14));
+    let removed = Call {
+        records: 13,
+        ..Call::of(0, b"__runtime.DeclareGlobals(1);\nuse(a);\n")
+    };
+    refused(removed, Refusal::ShortRecords(14));
+    assert_eq!(
+        Refusal::ShortRecords(42).to_string(),
+        "the records need 42 bytes of room"
+    );
 }
 
 fn lines(n: usize) -> Vec<u8> {
@@ -173,39 +319,57 @@ fn brackets(n: usize) -> Vec<u8> {
     [b"a\n".to_vec(), b"[".repeat(n)].concat()
 }
 
+/// A call that is refused whatever room it has for a result and for records: none, or enough.
+fn refused_anyway(pass: usize, text: &[u8], short: usize, refusal: Refusal) {
+    for (room, records) in [(0, 0), (2 * TEXT, RECORDS)] {
+        let call = Call {
+            pass,
+            text,
+            short,
+            room,
+            records,
+        };
+        refused(call, refusal);
+    }
+}
+
 #[test]
 fn refusals() {
     let long = b"x".repeat(TEXT + 1);
     for pass in [7, usize::MAX] {
-        expect(pass, &long, 1, 0, Err(Refusal::BadPass));
+        refused_anyway(pass, &long, 1, Refusal::BadPass);
     }
     assert_eq!(run_pass(0, Mode::Plain, SAMPLE), Err(Refusal::BadPass));
-    expect(0, &long, 1, 0, Err(Refusal::TooLong));
+    refused_anyway(0, &long, 1, Refusal::TooLong);
     for short in 1..=6 {
-        expect(0, b"\xFF", short, 0, Err(Refusal::ShortWork));
+        refused_anyway(0, b"\xFF", short, Refusal::ShortWork);
     }
-    expect(0, b"ab\xE2\x82\n", 0, 0, Err(Refusal::NotUtf8(2)));
-    expect(0, b"ab\xE2\x82", 0, 0, Err(Refusal::Cut(2)));
-    expect(6, b"ab\xC0\x80", 0, 0, Err(Refusal::Overlong(2)));
-    expect(6, b"ab\xED\xA0\x80", 0, 0, Err(Refusal::Outside(2)));
-    expect(0, &lines(LINES + 1), 0, 0, Err(Refusal::TooManyLines));
-    expect(0, &brackets(BRACKETS + 1), 0, 0, Err(Refusal::Crowded(1)));
-    expect(
-        0,
-        SAMPLE,
-        0,
-        TIDY.len() - 1,
-        Err(Refusal::ShortResult(TIDY.len())),
-    );
+    refused_anyway(0, b"ab\xE2\x82\n", 0, Refusal::NotUtf8(2));
+    refused_anyway(0, b"ab\xE2\x82", 0, Refusal::Cut(2));
+    refused_anyway(6, b"ab\xC0\x80", 0, Refusal::Overlong(2));
+    refused_anyway(6, b"ab\xED\xA0\x80", 0, Refusal::Outside(2));
+    refused_anyway(0, &lines(LINES + 1), 0, Refusal::TooManyLines);
+    refused_anyway(0, &brackets(BRACKETS + 1), 0, Refusal::Crowded(1));
+    let short = Call {
+        room: TIDY.len() - 1,
+        ..Call::of(0, SAMPLE)
+    };
+    refused(short, Refusal::ShortResult(TIDY.len()));
 }
 
 #[test]
 fn limits() {
     let long = b"x".repeat(TEXT);
-    assert_eq!(optimize(Mode::Plain, &long).as_deref(), Ok(&long[..]));
-    assert_eq!(optimize(Mode::Plain, &lines(LINES)), Ok(lines(LINES - 1)));
+    gives(optimize(Mode::Plain, &long), &long, kept(1));
+    let many = lines(LINES);
+    gives(optimize(Mode::Plain, &many), &many[1..], kept(LINES));
+    let call = Call {
+        records: RECORDS - 1,
+        ..Call::of(0, &many)
+    };
+    refused(call, Refusal::ShortRecords(RECORDS));
     let crowd = brackets(BRACKETS);
-    assert_eq!(optimize(Mode::Plain, &crowd).as_deref(), Ok(&crowd[..]));
+    gives(optimize(Mode::Plain, &crowd), &crowd, kept(2));
 }
 
 #[test]
@@ -264,6 +428,6 @@ fn threads_with_the_stated_stack() {
     let begun: Vec<_> = (0..4).map(|_| begin(text.clone())).collect();
     for each in begun {
         let answer = each.join().expect("an answer");
-        assert_eq!(answer.as_deref(), Ok(&b"use(2);\n"[..]));
+        gives(answer, b"use(2);\n", said("3- 3- 00"));
     }
 }

@@ -1,6 +1,7 @@
 //! The constants of the wrapper are those of include/optlines.h, which is read as text.
 
-use optlines::{Mode, Refusal, BLOCKS, BRACKETS, BYTES, LINES, STACK, TEXT};
+use optlines::{Fate, Mode, Refusal};
+use optlines::{BLOCKS, BRACKETS, BYTES, LINES, RECORD, RECORDS, STACK, TEXT};
 use std::fs;
 
 fn header() -> String {
@@ -34,7 +35,10 @@ fn every_define() {
         ("BRACKETS", BRACKETS),
         ("BYTES", BYTES),
         ("LINES", LINES),
+        ("NO_LINE", 65_535), // none in Rust
         ("PLAIN", Mode::Plain as usize),
+        ("RECORD", RECORD),
+        ("RECORDS", RECORDS),
         ("STACK", STACK),
         ("STRICT", Mode::Strict as usize),
         ("TEXT", TEXT),
@@ -62,11 +66,16 @@ fn every_number() {
         ("TOO_MANY_LINES", of(Refusal::TooManyLines)),
         ("CROWDED", of(Refusal::Crowded(0))),
         ("SHORT_RESULT", of(Refusal::ShortResult(0))),
+        ("SHORT_RECORDS", of(Refusal::ShortRecords(0))),
         ("CUT", of(Refusal::Cut(0))),
         ("OVERLONG", of(Refusal::Overlong(0))),
         ("OUTSIDE", of(Refusal::Outside(0))),
         ("BAD_MODE", of(Refusal::BadMode)),
         ("OVERLAP", 255), // of the inline function for C alone
+        ("EQUAL", Fate::Equal as usize),
+        ("CHANGED", Fate::Changed as usize),
+        ("INSIDE", Fate::Inside as usize),
+        ("GONE", Fate::Gone as usize),
     ];
     assert_eq!(found, wanted);
 }

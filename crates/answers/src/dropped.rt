@@ -2,7 +2,7 @@
 use crate::say::nothing;
 
 // Room for lines, and for blocks.
-const ROWS: usize = 4096;
+pub const ROWS: usize = 4096;
 
 // The other tables are as large as the entries lend them.
 const NOTED: usize = 1024;

@@ -1,4 +1,5 @@
 // Answers of the passes, over lines that are each followed by an LF.
+use crate::dropped::ROWS;
 use crate::say::nothing;
 
 // The tables are small, so that few texts do without numbers that are not low, and some have more of them than there are places.
@@ -18,9 +19,13 @@ fn prune_dead_temps(a: &[u8], out: &mut [u8]) -> usize {
     if out.len() / 2 <= a.len() {
         return nothing();
     }
+    if ROWS < lines::count_lines(a) {
+        return nothing();
+    }
     let mut own = [0usize; OWNERS];
     let mut declared = [0u8; PLACES];
     let mut read = [0u8; PLACES];
+    let mut moves = [0usize; ROWS];
     temps::prune_dead_temps(
         reading::Mode(0),
         a,
@@ -29,6 +34,7 @@ fn prune_dead_temps(a: &[u8], out: &mut [u8]) -> usize {
         &mut read,
         scratch,
         out,
+        &mut moves,
     )
 }
 
@@ -37,10 +43,14 @@ fn prune_decls(a: &[u8], out: &mut [u8]) -> usize {
     if out.len() / 2 <= a.len() {
         return nothing();
     }
+    if ROWS < lines::count_lines(a) {
+        return nothing();
+    }
     let mut own = [0usize; OWNERS];
     slots::gather::gather(a, LOW, &mut own);
     let mut seen = [0usize; PLACES];
-    decls::prune_decls(a, &own, &mut seen, out)
+    let mut moves = [0usize; ROWS];
+    decls::prune_decls(a, &own, &mut seen, out, &mut moves)
 }
 
 // The answer of a pass, 41 for the first.

@@ -10,3 +10,4 @@ pub mod Passes
 pub mod Examples
 pub mod Of_walk_lines
 pub mod Of_walk_window
+pub mod Moves

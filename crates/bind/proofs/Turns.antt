@@ -13,7 +13,7 @@ use Rattle.text.specs.Trim.{trimOf}
 use Rattle.place.specs.Region.{isHeader}
 use Rattle.place.specs.Inner.Region.{upHeader, regionLen}
 use Rattle.place.proofs.Regions.{past, end-stop, end-on, end-end}
-use Rattle.place.specs.Inner.Fill.{Filled, flagsOf}
+use Rattle.place.specs.Inner.Fill.{Filled}
 use Rattle.place.proofs.Marks.{Marked, marked-here, marked-on}
 use Rattle.records.specs.declared.LineRec.{LineRec}
 use Rattle.records.specs.Inner.Records.{noRec, recAt, recordsOf, Above, lastRecord, windowAt, Told}
@@ -23,10 +23,10 @@ use Rattle.decls.specs.Inner.Seen.{AtMost}
 use Rattle.reading.specs.Reading.{plain}
 use Rattle.bind.specs.declared.Site.{Site}
 use Rattle.bind.specs.Bind.{bindDeclarators}
-use Rattle.bind.specs.Inner.Steps.{lineOf, belowOf, boundAt, markRow, siteText, siteMarks, bindMarks}
+use Rattle.bind.specs.Inner.Steps.{lineOf, belowOf, boundAt, markRow, siteText, siteNotes, bindNotes}
 use Rattle.bind.specs.Inner.Index.{seenAt, firstAt, siteSeen, siteFirst, ReadyFor}
 use Rattle.bind.specs.Inner.Sites.{stopBy, firstSite, siteOf, WalkedSites}
-use Rattle.bind.proofs.WalkLaws.{BindInv, RegionAt, region-same, region-new, walk-start, walk-reach, walk-marks, walk-room, walk-on, walk-lt, walk-marked, walk-end, walk-filled}
+use Rattle.bind.proofs.WalkLaws.{BindInv, RegionAt, region-same, region-new, walk-start, walk-reach, walk-marks, walk-room, walk-on, walk-lt, walk-end, walk-filled}
 use Rattle.bind.proofs.IndexWalk.{IndexInv, IndexAt, index-start, index-same, index-new, region-fits, index-told, index-on}
 
 -- ---- where a region ends, by the table of ends
@@ -119,7 +119,7 @@ turn-start own t es n bs ss d u m o s x a b c w f e i =
     }))
 
 pub turn-end : {own t es : List ℕ} {n : ℕ} {bs ss d₀ u₀ m₀ o₀ d u m o : List ℕ} {s : Site} {c k p : ℕ} → TurnInv own t es n bs ss d₀ u₀ m₀ o₀ d u m o s c k p → n ≤ k →
-    (Wrote o₀ 0 (unlines (bindDeclarators plain (linesOf t))) o p) × (Filled m₀ (flagsOf (bindMarks plain (linesOf t))) m (length (linesOf t)))
+    (Wrote o₀ 0 (unlines (bindDeclarators plain (linesOf t))) o p) × (Filled m₀ (bindNotes plain (linesOf t)) m (length (linesOf t)))
 turn-end h l = let q = down-none (h .down) (let e = h .count in omega arith) in (walk-end (h .bind) q, walk-filled (h .bind) q)
 
 module _ {own t es : List ℕ} {n : ℕ} {bs ss d₀ u₀ m₀ o₀ d u m o : List ℕ} {s : Site} {c k p : ℕ} (h : TurnInv own t es n bs ss d₀ u₀ m₀ o₀ d u m o s c k p) (l : k < n) where
@@ -226,12 +226,12 @@ module _ {own t es : List ℕ} {n : ℕ} {bs ss d₀ u₀ m₀ o₀ d u m o : Li
             (walk-marks (h .bind) to inside refl (sited .region) next refl, walk-room (h .bind) to inside refl (sited .region) next refl),
           )
 
-      pub turn-on : {m′ o′ : List ℕ} {c′ p′ : ℕ} → c′ ≡ r .region .0 → Wrote o p (siteText (boundAt t s′ bs ss) (lineOf t s′) (getD m (s′ .row) 0)) o′ p′ → m′ ≡ siteMarks (boundAt t s′ bs ss) (markRow t s′) (lineOf t s′) m →
+      pub turn-on : {m′ o′ : List ℕ} {c′ p′ : ℕ} → c′ ≡ r .region .0 → Wrote o p (siteText (boundAt t s′ bs ss) (lineOf t s′) (getD m (s′ .row) 0)) o′ p′ → m′ ≡ siteNotes (boundAt t s′ bs ss) (markRow t s′) (lineOf t s′) (s′ .row) m →
           TurnInv own t es n bs ss d₀ u₀ m₀ o₀ d′ u′ m′ o′ s′ c′ (k + 1) p′
       turn-on {m′} {o′} {c′} {p′} e v x =
           let y : Site = record { top = sited .top; from = from; to = to; next = next; end = sited .end; row = k; block = getD bs k 0 } in
           let v′ : Wrote o p (siteText (boundAt t y bs ss) (lineOf t y) (getD m k 0)) o′ p′ = subst (λ (f : Site). Wrote o p (siteText (boundAt t f bs ss) (lineOf t f) (getD m (f .row) 0)) o′ p′) (sited .is) v in
-          let x′ : m′ ≡ siteMarks (boundAt t y bs ss) (markRow t y) (lineOf t y) m = subst (λ (f : Site). m′ ≡ siteMarks (boundAt t f bs ss) (markRow t f) (lineOf t f) m) (sited .is) x in
+          let x′ : m′ ≡ siteNotes (boundAt t y bs ss) (markRow t y) (lineOf t y) k m = subst (λ (f : Site). m′ ≡ siteNotes (boundAt t f bs ss) (markRow t f) (lineOf t f) (f .row) m) (sited .is) x in
           let i : c′ ≡ number = e ∙ ap (λ (f : LineRec). f .region .0) rec-is in
           subst (λ (f : Site). TurnInv own t es n bs ss d₀ u₀ m₀ o₀ d′ u′ m′ o′ f c′ (k + 1) p′) (sym (sited .is)) (record {
             bind = walk-on (h .bind) to inside refl (sited .region) next refl v′ x′;

@@ -4,14 +4,14 @@ use mathlib.Core.Path.{_≡_, refl, sym, ap, _∙_, subst}
 use mathlib.Core.Bool.{Bool, true, false, cond, not, _&&_, _||_}
 use mathlib.Core.List.{List, [], _∷_, _++_, append-assoc, append-nil}
 use native.Mathlib.Omega.{arith}
-use borrow.Author.Tests.{leb-true, leb-false}
+use borrow.Author.Tests.{leb-true, leb-false, ne-eqb}
 use lib.Dec.{eqb, leb}
 use lib.ListN.{length, getD, set, take, drop, replicate, length-append, length-drop, length-replicate, take-append-drop}
 use lib.Seq.{drop-drop, drop-nil, take-add, take-all, getD-drop, append-snoc, set-append-left, getD-at}
 use Rattle.place.proofs.Blocks.{cleaned-length, length-ids}
 use Rattle.place.proofs.Starts.{length-starts}
 use Rattle.lines.specs.Lf.{part, upTo, cutOn, linesOf, partsOf, unlines}
-use Rattle.lines.specs.Acts.{keep, become, act, apply}
+use Rattle.lines.specs.Acts.{Act, keep, become, into, gone, act, apply}
 use Rattle.lines.specs.Inner.Out.{Wrote}
 use Rattle.lines.proofs.LfLaws.{upTo-le, lines-at, lines-end, part-none}
 use Rattle.lines.proofs.ActLaws.{unlines-append}
@@ -29,7 +29,7 @@ use Rattle.place.specs.Inner.Blocks.{blockIds}
 use Rattle.place.specs.Starts.{startsGo}
 use Rattle.place.specs.Inner.Fill.{Filled, flagsOf}
 use Rattle.place.proofs.Regions.{past, end-on, region-lines}
-use Rattle.place.proofs.Fills.{entry-on, entry-end, filled-take, flags-length}
+use Rattle.place.proofs.Fills.{entry-on, entry-end, filled-take}
 use Rattle.decls.specs.Decls.{declAct}
 use Rattle.decls.specs.Inner.Print.{bareName, one, kept, declText}
 use Rattle.decls.proofs.PrintLaws.{writing-fits, act-text}
@@ -38,7 +38,7 @@ use Rattle.reading.specs.Reading.{plain}
 use Rattle.reading.specs.Uses.{lineStores, lineUses, usedIn}
 use Rattle.bind.specs.declared.Site.{Site}
 use Rattle.bind.specs.Bind.{BlockLine, blockLinesOf, blockLines, linesWithin, untilHead, declCount, storeCount, firstUse, storeAt, bound, boundBy, anyBound, unboundOne, unbound, mark, markOne, markAll, marked, piecesOf, promoted, bindAct, aboveIn, bindGo, bindDeclaratorsActs, bindDeclarators}
-use Rattle.bind.specs.Inner.Steps.{aboveOf, lineOf, belowOf, useRow, storesAt, boundAt, markRow, passes, fails, left, anyPass, noted, notedAll, givesUp, otherText, siteText, siteMarks, marksGo, bindMarks, Rows, none, row, Reach}
+use Rattle.bind.specs.Inner.Steps.{aboveOf, lineOf, belowOf, useRow, storesAt, boundAt, markRow, passes, fails, left, anyPass, noted, notedAll, givesUp, otherText, siteText, siteMarks, siteNotes, endNote, notesGo, bindNotes, Rows, none, row, Reach}
 use Rattle.bind.proofs.CountLaws.{decl-cons, store-cons, blank-stores}
 use Rattle.bind.proofs.SiteLaws.{bound-lt}
 
@@ -442,42 +442,50 @@ go-nil : (us : List (List ℕ)) (ms : List Bool) → goText [] us ms ≡ []
 unfolding goText bindGo linesWithin apply unlines
 go-nil us ms = refl
 
-marks-cons : (d : BlockLine) (sp : List BlockLine) (us : List (List ℕ)) (ms : List Bool) → marksGo (d ∷ sp) us ms ≡ marked ms ∷ marksGo sp (d .line ∷ aboveIn d us) (nextMarks d sp us ms)
-unfolding marksGo
-marks-cons d sp us ms = refl
+-- what the table says of a line in the end
+noteHere : BlockLine → List BlockLine → List (List ℕ) → List Bool → ℕ
+noteHere d sp us ms = endNote (bindAct d (aboveIn d us) (untilHead sp) (marked ms)) (marked ms)
 
-marks-empty : (us : List (List ℕ)) (ms : List Bool) → marksGo [] us ms ≡ []
-unfolding marksGo
-marks-empty us ms = refl
+notes-cons : (d : BlockLine) (sp : List BlockLine) (us : List (List ℕ)) (ms : List Bool) → notesGo (d ∷ sp) us ms ≡ noteHere d sp us ms ∷ notesGo sp (d .line ∷ aboveIn d us) (nextMarks d sp us ms)
+unfolding notesGo noteHere
+notes-cons d sp us ms = refl
 
-flags-append : (xs ys : List Bool) → flagsOf (xs ++ ys) ≡ flagsOf xs ++ flagsOf ys
-unfolding flagsOf
-flags-append [] ys = refl
-flags-append (x ∷ xs) ys = ap (λ (r : List ℕ). cond x 1 0 ∷ r) (flags-append xs ys)
+notes-empty : (us : List (List ℕ)) (ms : List Bool) → notesGo [] us ms ≡ []
+unfolding notesGo
+notes-empty us ms = refl
 
-flags-one : (b : Bool) → flagsOf (b ∷ []) ≡ cond b 1 0 ∷ []
-unfolding flagsOf
-flags-one b = refl
+-- it is told by what was written of the line
+note-text : (a : Act) (l : List ℕ) (m : Bool) → endNote a m ≡ cond (eqb (length (unlines (act a l))) 0) 2 (cond m 1 0)
+unfolding act unlines
+note-text keep l m = rw (ne-eqb (length (l ++ 10 ∷ [])) 0 (λ e. omega (arith, e, length-append l (10 ∷ []))))
+note-text (become t) l m = rw (ne-eqb (length (t ++ 10 ∷ [])) 0 (λ e. omega (arith, e, length-append t (10 ∷ []))))
+note-text (into n) l m = refl
+note-text gone l m = refl
+
+-- the entry k after those of q
+set-here : (q rest : List ℕ) (x y k : ℕ) → length q ≡ k → set ((q ++ (x ∷ [])) ++ rest) k y ≡ (q ++ (y ∷ [])) ++ rest
+set-here q rest x y k e =
+    let z : k ≡ length q + 0 = omega arith in
+    ap (λ (l : List ℕ). set l k y) (append-assoc q (x ∷ []) rest) ∙ ap (λ (n : ℕ). set (q ++ (x ∷ rest)) n y) z ∙ set-right q (x ∷ rest) 0 y ∙ sym (append-assoc q (y ∷ []) rest)
 
 -- the table of marks: those of the lines above, then those made for the lines to come, sp
 pub record Marks (t m₀ m : List ℕ) (sp : List BlockLine) (us : List (List ℕ)) (ms : List Bool) (k : ℕ) : Type 0 where
-  pub before : List Bool
+  pub before : List ℕ
   pub count : length before ≡ k
   pub total : k + length sp ≡ length (linesOf t)
   pub fits : length (linesOf t) ≤ length m₀
-  pub table : m ≡ flagsOf before ++ (padTo (length sp) ms ++ drop (length (linesOf t)) m₀)
-  pub so-far : before ++ marksGo sp us ms ≡ bindMarks plain (linesOf t)
+  pub table : m ≡ before ++ (padTo (length sp) ms ++ drop (length (linesOf t)) m₀)
+  pub so-far : before ++ notesGo sp us ms ≡ bindNotes plain (linesOf t)
 
 marks-length : {t m₀ m : List ℕ} {sp : List BlockLine} {us : List (List ℕ)} {ms : List Bool} {k : ℕ} → Marks t m₀ m sp us ms k → length m ≡ length m₀
 marks-length {t} {m₀} {m} {sp} {us} {ms} {k} h =
     omega (
       arith,
       ap length (h .table),
-      length-append (flagsOf (h .before)) (padTo (length sp) ms ++ drop (length (linesOf t)) m₀),
+      length-append (h .before) (padTo (length sp) ms ++ drop (length (linesOf t)) m₀),
       length-append (padTo (length sp) ms) (drop (length (linesOf t)) m₀),
       pad-length (length sp) ms,
       length-drop (length (linesOf t)) m₀,
-      flags-length (h .before),
       h .count,
       h .total,
       h .fits,
@@ -584,29 +592,33 @@ module _ {t bs ss m₀ m d₀ d : List ℕ} {top end i k o : ℕ} (h : BindInv t
 
     -- the marks of the lines above and this one
     abbrev upper : List ℕ
-    upper = flagsOf (here .marks .before) ++ (cond (marked (h .ms)) 1 0 ∷ [])
+    upper = (here .marks .before) ++ (cond (marked (h .ms)) 1 0 ∷ [])
 
     upper-length : length upper ≡ suc k
-    upper-length = omega (arith, length-append (flagsOf (here .marks .before)) (cond (marked (h .ms)) 1 0 ∷ []), flags-length (here .marks .before), here .marks .count)
+    upper-length = omega (arith, length-append (here .marks .before) (cond (marked (h .ms)) 1 0 ∷ []), here .marks .count)
 
     table-is : m ≡ upper ++ (padTo (length (here .more)) (drop 1 (h .ms)) ++ drop (length (linesOf t)) m₀)
     table-is =
         here .marks .table
-        ∙ ap (λ (x : List ℕ). flagsOf (here .marks .before) ++ (x ++ drop (length (linesOf t)) m₀)) (pad-cons (length (here .more)) (h .ms))
-        ∙ sym (append-assoc (flagsOf (here .marks .before)) (cond (marked (h .ms)) 1 0 ∷ []) (padTo (length (here .more)) (drop 1 (h .ms)) ++ drop (length (linesOf t)) m₀))
+        ∙ ap (λ (x : List ℕ). (here .marks .before) ++ (x ++ drop (length (linesOf t)) m₀)) (pad-cons (length (here .more)) (h .ms))
+        ∙ sym (append-assoc (here .marks .before) (cond (marked (h .ms)) 1 0 ∷ []) (padTo (length (here .more)) (drop 1 (h .ms)) ++ drop (length (linesOf t)) m₀))
 
     mark-here : getD m k 0 ≡ cond (marked (h .ms)) 1 0
     mark-here =
-        ap (λ (x : List ℕ). getD x k 0) (here .marks .table ∙ ap (λ (x : List ℕ). flagsOf (here .marks .before) ++ (x ++ drop (length (linesOf t)) m₀)) (pad-cons (length (here .more)) (h .ms)))
-        ∙ getD-at (flagsOf (here .marks .before)) (cond (marked (h .ms)) 1 0) (padTo (length (here .more)) (drop 1 (h .ms)) ++ drop (length (linesOf t)) m₀) 0 k (flags-length (here .marks .before) ∙ here .marks .count)
+        ap (λ (x : List ℕ). getD x k 0) (here .marks .table ∙ ap (λ (x : List ℕ). (here .marks .before) ++ (x ++ drop (length (linesOf t)) m₀)) (pad-cons (length (here .more)) (h .ms)))
+        ∙ getD-at (here .marks .before) (cond (marked (h .ms)) 1 0) (padTo (length (here .more)) (drop 1 (h .ms)) ++ drop (length (linesOf t)) m₀) 0 k (here .marks .count)
+
+    site-text : unlines (act (bindAct (here .spot) (aboveIn (here .spot) (h .us)) (untilHead (here .more)) (marked (h .ms))) (here .spot .line)) ≡ siteText (boundAt t site bs ss) (lineOf t site) (getD m k 0)
+    site-text =
+        sym (text-as (boundAt t site bs ss) (aboveIn (here .spot) (h .us)) (here .spot) (untilHead (here .more)) test-is (marked (h .ms)))
+        ∙ ap (λ (x : List ℕ). siteText (boundAt t site bs ss) x (cond (marked (h .ms)) 1 0)) line-is
+        ∙ ap (siteText (boundAt t site bs ss) (lineOf t site)) (sym mark-here)
 
     text-is : goText (here .spot ∷ here .more) (h .us) (h .ms) ≡ siteText (boundAt t site bs ss) (lineOf t site) (getD m k 0) ++ goText (here .more) (here .spot .line ∷ aboveIn (here .spot) (h .us)) (nextMarks (here .spot) (here .more) (h .us) (h .ms))
     text-is =
         go-cons (here .spot) (here .more) (h .us) (h .ms)
         ∙ ap (λ (x : List ℕ). x ++ goText (here .more) (here .spot .line ∷ aboveIn (here .spot) (h .us)) (nextMarks (here .spot) (here .more) (h .us) (h .ms)))
-        (sym (text-as (boundAt t site bs ss) (aboveIn (here .spot) (h .us)) (here .spot) (untilHead (here .more)) test-is (marked (h .ms)))
-        ∙ ap (λ (x : List ℕ). siteText (boundAt t site bs ss) x (cond (marked (h .ms)) 1 0)) line-is
-        ∙ ap (siteText (boundAt t site bs ss) (lineOf t site)) (sym mark-here))
+        site-text
 
     pub walk-room : o + length (siteText (boundAt t site bs ss) (lineOf t site) (getD m k 0)) ≤ length d
     walk-room = writing-fits (siteText (boundAt t site bs ss) (lineOf t site) (getD m k 0)) _ (writing-as text-is (here .writing))
@@ -617,24 +629,42 @@ module _ {t bs ss m₀ m d₀ d : List ℕ} {top end i k o : ℕ} (h : BindInv t
     use-lt : (v : ℕ) → bound v (aboveIn (here .spot) (h .us)) (here .spot) (untilHead (here .more)) ≡ true → firstUse v (untilHead (here .more)) < length (here .more)
     use-lt v e₁ = omega (arith, bound-lt t site bs ss v (test-is v ∙ e₁), ap (useRow v) below-is, use-in v (untilHead (here .more)), ap length below-is, until-short (here .more))
 
-    next-table : siteMarks (boundAt t site bs ss) (markRow t site) (lineOf t site) m ≡ upper ++ (padTo (length (here .more)) (nextMarks (here .spot) (here .more) (h .us) (h .ms)) ++ drop (length (linesOf t)) m₀)
-    next-table =
+    mid-table : siteMarks (boundAt t site bs ss) (markRow t site) (lineOf t site) m ≡ upper ++ (padTo (length (here .more)) (nextMarks (here .spot) (here .more) (h .us) (h .ms)) ++ drop (length (linesOf t)) m₀)
+    mid-table =
         ap (siteMarks (boundAt t site bs ss) (markRow t site) (lineOf t site)) table-is
         ∙ ap (λ (x : List ℕ). siteMarks (boundAt t site bs ss) (markRow t site) x (upper ++ (padTo (length (here .more)) (drop 1 (h .ms)) ++ drop (length (linesOf t)) m₀))) (sym line-is)
         ∙ marks-as (boundAt t site bs ss) (aboveIn (here .spot) (h .us)) (here .spot) (untilHead (here .more)) test-is (length (here .more)) use-lt upper (drop (length (linesOf t)) m₀) (markRow t site) row-is (drop 1 (h .ms))
 
-    next-marks : {m′ : List ℕ} → m′ ≡ siteMarks (boundAt t site bs ss) (markRow t site) (lineOf t site) m →
+    -- the marks of the lines above, and what the table says of this one
+    abbrev lower : List ℕ
+    lower = here .marks .before ++ (noteHere (here .spot) (here .more) (h .us) (h .ms) ∷ [])
+
+    next-table : siteNotes (boundAt t site bs ss) (markRow t site) (lineOf t site) k m ≡ lower ++ (padTo (length (here .more)) (nextMarks (here .spot) (here .more) (h .us) (h .ms)) ++ drop (length (linesOf t)) m₀)
+    unfolding siteNotes noteHere
+    next-table =
+        let a : Act = bindAct (here .spot) (aboveIn (here .spot) (h .us)) (untilHead (here .more)) (marked (h .ms)) in
+        let x : List ℕ = padTo (length (here .more)) (nextMarks (here .spot) (here .more) (h .us) (h .ms)) ++ drop (length (linesOf t)) m₀ in
+        let e : length (siteText (boundAt t site bs ss) (lineOf t site) (getD m k 0)) ≡ length (unlines (act a (here .spot .line))) = ap length (sym site-text) in
+        rw (e, mid-table) (
+        go (eqb (length (unlines (act a (here .spot .line)))) 0)
+        ∙ ap (λ (n : ℕ). (here .marks .before ++ (n ∷ [])) ++ x) (sym (note-text a (here .spot .line) (marked (h .ms))))
+        )
+      where
+        go : (b : Bool) → cond b (set (upper ++ (padTo (length (here .more)) (nextMarks (here .spot) (here .more) (h .us) (h .ms)) ++ drop (length (linesOf t)) m₀)) k 2) (upper ++ (padTo (length (here .more)) (nextMarks (here .spot) (here .more) (h .us) (h .ms)) ++ drop (length (linesOf t)) m₀))
+            ≡ (here .marks .before ++ (cond b 2 (cond (marked (h .ms)) 1 0) ∷ [])) ++ (padTo (length (here .more)) (nextMarks (here .spot) (here .more) (h .us) (h .ms)) ++ drop (length (linesOf t)) m₀)
+        go true = set-here (here .marks .before) (padTo (length (here .more)) (nextMarks (here .spot) (here .more) (h .us) (h .ms)) ++ drop (length (linesOf t)) m₀) (cond (marked (h .ms)) 1 0) 2 k (here .marks .count)
+        go false = refl
+
+    next-marks : {m′ : List ℕ} → m′ ≡ siteNotes (boundAt t site bs ss) (markRow t site) (lineOf t site) k m →
         Marks t m₀ m′ (here .more) (here .spot .line ∷ aboveIn (here .spot) (h .us)) (nextMarks (here .spot) (here .more) (h .us) (h .ms)) (k + 1)
     next-marks {m′} x = record {
-      before = here .marks .before ++ (marked (h .ms) ∷ []);
-      count = omega (arith, length-append (here .marks .before) (marked (h .ms) ∷ []), here .marks .count);
+      before = lower;
+      count = omega (arith, length-append (here .marks .before) (noteHere (here .spot) (here .more) (h .us) (h .ms) ∷ []), here .marks .count);
       total = omega (arith, here .marks .total);
       fits = here .marks .fits;
-      table = x ∙ next-table
-          ∙ ap (λ (z : List ℕ). z ++ (padTo (length (here .more)) (nextMarks (here .spot) (here .more) (h .us) (h .ms)) ++ drop (length (linesOf t)) m₀))
-          (ap (λ (z : List ℕ). flagsOf (here .marks .before) ++ z) (sym (flags-one (marked (h .ms)))) ∙ sym (flags-append (here .marks .before) (marked (h .ms) ∷ [])));
-      so-far = append-snoc (here .marks .before) (marked (h .ms)) (marksGo (here .more) (here .spot .line ∷ aboveIn (here .spot) (h .us)) (nextMarks (here .spot) (here .more) (h .us) (h .ms)))
-          ∙ ap (λ (z : List Bool). here .marks .before ++ z) (sym (marks-cons (here .spot) (here .more) (h .us) (h .ms))) ∙ here .marks .so-far;
+      table = x ∙ next-table;
+      so-far = append-snoc (here .marks .before) (noteHere (here .spot) (here .more) (h .us) (h .ms)) (notesGo (here .more) (here .spot .line ∷ aboveIn (here .spot) (h .us)) (nextMarks (here .spot) (here .more) (h .us) (h .ms)))
+          ∙ ap (λ (z : List ℕ). here .marks .before ++ z) (sym (notes-cons (here .spot) (here .more) (h .us) (h .ms))) ∙ here .marks .so-far;
     }
 
     next-rows : Rows (here .more) (drop (k + 1) bs) (drop (k + 1) ss)
@@ -646,7 +676,7 @@ module _ {t bs ss m₀ m d₀ d : List ℕ} {top end i k o : ℕ} (h : BindInv t
     next-ends : (f : ℕ) → j < length t → f ≡ j + upTo 10 (drop j t) → isHeader (part j f t) ≡ false → end′ ≡ j + regionLen (drop j t)
     next-ends f a b c = g .ends ∙ sym (past t i e j q (omega arith) y) ∙ ap (λ (n : ℕ). j + n) (end-on t j f a b c)
 
-    pub walk-on : {d′ m′ : List ℕ} {o′ : ℕ} → Wrote d o (siteText (boundAt t site bs ss) (lineOf t site) (getD m k 0)) d′ o′ → m′ ≡ siteMarks (boundAt t site bs ss) (markRow t site) (lineOf t site) m →
+    pub walk-on : {d′ m′ : List ℕ} {o′ : ℕ} → Wrote d o (siteText (boundAt t site bs ss) (lineOf t site) (getD m k 0)) d′ o′ → m′ ≡ siteNotes (boundAt t site bs ss) (markRow t site) (lineOf t site) k m →
         BindInv t bs ss m₀ m′ d₀ d′ top′ end′ j (k + 1) o′
     walk-on v x = record {
       i≤ = omega arith;
@@ -694,12 +724,11 @@ go-all : (ls : List (List ℕ)) → unlines (bindDeclarators plain ls) ≡ goTex
 unfolding goText bindDeclarators bindDeclaratorsActs
 go-all ls = ap (λ (r : List (List ℕ)). unlines (apply (bindGo (blockLines plain ls) [] []) r)) (sym (spots-lines ls))
 
-marks-all : (ls : List (List ℕ)) → marksGo (blockLines plain ls) [] [] ≡ bindMarks plain ls
-unfolding bindMarks
-marks-all ls = refl
+notes-all : (ls : List (List ℕ)) → notesGo (blockLines plain ls) [] [] ≡ bindNotes plain ls
+unfolding bindNotes
+notes-all ls = refl
 
 marks-start : (t m : List ℕ) → length (linesOf t) ≤ length m → take (length (linesOf t)) m ≡ replicate (length (linesOf t)) 0 → Marks t m m (blockLines plain (linesOf t)) [] [] 0
-unfolding flagsOf
 marks-start t m p q =
     let n : length (blockLines plain (linesOf t)) ≡ length (linesOf t) = sym (in-length (blockLines plain (linesOf t))) ∙ ap length (spots-lines (linesOf t)) in
     record {
@@ -709,7 +738,7 @@ marks-start t m p q =
       fits = p;
       table = sym (take-append-drop (length (linesOf t)) m)
           ∙ ap (λ (x : List ℕ). x ++ drop (length (linesOf t)) m) (q ∙ sym (pad-none (length (linesOf t))) ∙ ap (λ (k : ℕ). padTo k []) (sym n));
-      so-far = marks-all (linesOf t);
+      so-far = notes-all (linesOf t);
     }
 
 pub walk-start : (t bs ss m d : List ℕ) (end : ℕ) → Rows (blockLines plain (linesOf t)) bs ss → length (linesOf t) ≤ length m → take (length (linesOf t)) m ≡ replicate (length (linesOf t)) 0 →
@@ -750,20 +779,19 @@ module _ {t bs ss m₀ m d₀ d : List ℕ} {top end i k o : ℕ} (h : BindInv t
   pub walk-end : length t ≤ i → Wrote d₀ 0 (unlines (bindDeclarators plain (linesOf t))) d o
   walk-end l = writing-end (writing-as (ap (λ (sp : List BlockLine). goText sp (h .us) (h .ms)) (all-read l) ∙ go-nil (h .us) (h .ms)) (h .writing))
 
-  pub walk-filled : length t ≤ i → Filled m₀ (flagsOf (bindMarks plain (linesOf t))) m (length (linesOf t))
+  pub walk-filled : length t ≤ i → Filled m₀ (bindNotes plain (linesOf t)) m (length (linesOf t))
   unfolding padTo
   walk-filled l =
       let z = all-read l in
-      let b : h .marks .before ≡ bindMarks plain (linesOf t) =
-      sym (append-nil (h .marks .before)) ∙ ap (λ (x : List Bool). h .marks .before ++ x) (sym (ap (λ (sp : List BlockLine). marksGo sp (h .us) (h .ms)) z ∙ marks-empty (h .us) (h .ms))) ∙ h .marks .so-far in
-      let n : length (linesOf t) ≡ length (flagsOf (bindMarks plain (linesOf t))) =
-      omega (arith, h .marks .total, h .marks .count, ap length z, ap length b, flags-length (bindMarks plain (linesOf t))) in
+      let b : h .marks .before ≡ bindNotes plain (linesOf t) =
+      sym (append-nil (h .marks .before)) ∙ ap (λ (x : List ℕ). h .marks .before ++ x) (sym (ap (λ (sp : List BlockLine). notesGo sp (h .us) (h .ms)) z ∙ notes-empty (h .us) (h .ms))) ∙ h .marks .so-far in
+      let n : length (linesOf t) ≡ length (bindNotes plain (linesOf t)) = omega (arith, h .marks .total, h .marks .count, ap length z, ap length b) in
       record {
         place = n;
         holds = h .marks .table
-            ∙ ap (λ (sp : List BlockLine). flagsOf (h .marks .before) ++ (padTo (length sp) (h .ms) ++ drop (length (linesOf t)) m₀)) z
-            ∙ ap (λ (x : List Bool). flagsOf x ++ drop (length (linesOf t)) m₀) b
-            ∙ ap (λ (x : ℕ). flagsOf (bindMarks plain (linesOf t)) ++ drop x m₀) n;
+            ∙ ap (λ (sp : List BlockLine). h .marks .before ++ (padTo (length sp) (h .ms) ++ drop (length (linesOf t)) m₀)) z
+            ∙ ap (λ (x : List ℕ). x ++ drop (length (linesOf t)) m₀) b
+            ∙ ap (λ (x : ℕ). bindNotes plain (linesOf t) ++ drop x m₀) n;
       }
 
 -- ---- `bind_declarators`: the tables, then the marks cleared, then the walk

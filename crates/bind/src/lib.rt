@@ -11,6 +11,7 @@ ghost use Rattle.lines.specs.Lf.{part, linesOf, partsOf, unlines};
 ghost use Rattle.lines.specs.Inner.Out.{Wrote};
 ghost use Rattle.text.specs.Trim.{trimOf};
 ghost use Rattle.names.specs.Names.{regOf, regIs};
+ghost use Rattle.origins.specs.Inner.Codes.{farMove};
 ghost use Rattle.place.specs.Blocks.{cleaned};
 ghost use Rattle.place.specs.Inner.Blocks.{blockIds};
 ghost use Rattle.place.specs.Starts.{startsGo};
@@ -24,7 +25,7 @@ ghost use Rattle.reading.specs.Reading.{plain};
 ghost use Rattle.reading.specs.Uses.{lineStores};
 ghost use Rattle.bind.specs.Bind.{blockLines, pieceCount, declCount, storeCount, promoted, bindDeclarators};
 ghost use Rattle.bind.specs.Inner.Index.{siteSeen, siteFirst, Ready, ReadyFor};
-ghost use Rattle.bind.specs.Inner.Steps.{lineOf, belowOf, useRow, storesAt, boundAt, markRow, passes, left, anyPass, noted, notedAll, otherText, siteText, siteMarks, bindMarks, Reach};
+ghost use Rattle.bind.specs.Inner.Steps.{lineOf, belowOf, useRow, storesAt, boundAt, markRow, passes, left, anyPass, noted, notedAll, otherText, siteText, siteMarks, siteNotes, bindNotes, noteMoves, Reach};
 ghost use Rattle.bind.specs.Inner.Sites.{stopBy, firstSite, siteOf, WalkedSites};
 
 // A line of the text and its region: the region begins at `top` and ends at `end`, the line goes from `from` to `to` and the one below
@@ -38,6 +39,9 @@ struct Site {
     row: usize,
     block: usize,
 }
+
+// The mark of a line that is gone.
+const AWAY: u8 = 2;
 
 // One more, where `b` says so, but no more than 2.
 fn one_more(n: usize, b: bool) -> usize
@@ -436,7 +440,7 @@ fn bind_decl(
 }
 
 // The same of any line: one that does not begin with `l` gives up no name.
-fn bind_line(
+fn bind_site(
     text: &[u8],
     own: &[usize],
     s: Site,
@@ -460,6 +464,34 @@ fn bind_line(
         return put_other(line, marks[row], out, o);
     }
     bind_decl(text, own, s, blocks, starts, seen, first, marks, out, o)
+}
+
+// The same, and marks the line itself where nothing was written of it.
+fn bind_line(
+    text: &[u8],
+    own: &[usize],
+    s: Site,
+    blocks: &[usize],
+    starts: &[u8],
+    seen: &[usize],
+    first: &[usize],
+    marks: &mut [u8],
+    out: &mut [u8],
+    o: usize,
+) -> usize
+    requires { ⌜ (ReadyFor (trimOf (lineOf (now text) s)) (now own) (now text) s (now blocks) (now starts) (now seen) (now first))
+        × ((s .row + suc (length (belowOf (now text) s)) ≤ length (now marks))
+        × (o + length (siteText (boundAt (now text) s (now blocks) (now starts)) (lineOf (now text) s) (getD (now marks) (s .row) 0)) ≤ length (now out))) ⌝ }
+    ensures answer { λ r. ⌜ Wrote (now (out .entry)) o (siteText (boundAt (now (text .entry)) s (now (blocks .entry)) (now (starts .entry))) (lineOf (now (text .entry)) s) (getD (now (marks .entry)) (s .row) 0)) (now (out .exit)) r ⌝ }
+    ensures memory { λ _. ⌜ now (marks .exit) ≡ siteNotes (boundAt (now (text .entry)) s (now (blocks .entry)) (now (starts .entry))) (markRow (now (text .entry)) s) (lineOf (now (text .entry)) s) (s .row) (now (marks .entry)) ⌝ }
+{
+    let p = bind_site(text, own, s, blocks, starts, seen, first, marks, out, o);
+    if p == o {
+        let row = s.row;
+        marks[row] = AWAY;
+        return p;
+    }
+    p
 }
 
 // Makes the first `n` entries 0.
@@ -593,7 +625,7 @@ fn walk_line(
     ensures index { λ _. ⌜ (now (seen .exit) ≡ siteSeen (now (own .entry)) (now (text .entry)) s (now (seen .entry)))
         × (now (first .exit) ≡ siteFirst (now (own .entry)) (now (text .entry)) s (now (seen .entry)) (now (first .entry))) ⌝ }
     ensures answer { λ r. ⌜ Wrote (now (out .entry)) o (siteText (boundAt (now (text .entry)) s (now (blocks .entry)) (now (starts .entry))) (lineOf (now (text .entry)) s) (getD (now (marks .entry)) (s .row) 0)) (now (out .exit)) r ⌝ }
-    ensures memory { λ _. ⌜ now (marks .exit) ≡ siteMarks (boundAt (now (text .entry)) s (now (blocks .entry)) (now (starts .entry))) (markRow (now (text .entry)) s) (lineOf (now (text .entry)) s) (now (marks .entry)) ⌝ }
+    ensures memory { λ _. ⌜ now (marks .exit) ≡ siteNotes (boundAt (now (text .entry)) s (now (blocks .entry)) (now (starts .entry))) (markRow (now (text .entry)) s) (lineOf (now (text .entry)) s) (s .row) (now (marks .entry)) ⌝ }
 {
     index::read_region(text, own, s.top, s.from, s.end, s.row, seen, first);
     bind_line(text, own, s, blocks, starts, seen, first, marks, out, o)
@@ -617,7 +649,7 @@ fn walk_lines(
     requires { ⌜ (0 < length (now recs)) × (((length (now seen) ≡ length (now first)) × ((AtMost 0 (now seen)) × (AtMost 0 (now first))))
         × (WalkedSites (now text) (now ends) n (now blocks) (now starts) (now marks) (now out))) ⌝ }
     ensures answer { λ r. ⌜ Wrote (now (out .entry)) 0 (unlines (bindDeclarators plain (linesOf (now (text .entry))))) (now (out .exit)) r ⌝ }
-    ensures memory { λ _. ⌜ Filled (now (marks .entry)) (flagsOf (bindMarks plain (linesOf (now (text .entry))))) (now (marks .exit)) (length (linesOf (now (text .entry)))) ⌝ }
+    ensures memory { λ _. ⌜ Filled (now (marks .entry)) (bindNotes plain (linesOf (now (text .entry)))) (now (marks .exit)) (length (linesOf (now (text .entry)))) ⌝ }
 {
     let mut c = place::Region(0);
     let mut s = first_site(stop_by(ends, 0, n, 0, text.len()));
@@ -651,7 +683,7 @@ fn walk_window(
     requires { ⌜ ((length (now seen) ≡ length (now first)) × ((AtMost 0 (now seen)) × (AtMost 0 (now first))))
         × (WalkedSites (now text) (now ends) n (now blocks) (now starts) (now marks) (now out)) ⌝ }
     ensures answer { λ r. ⌜ Wrote (now (out .entry)) 0 (unlines (bindDeclarators plain (linesOf (now (text .entry))))) (now (out .exit)) r ⌝ }
-    ensures memory { λ _. ⌜ Filled (now (marks .entry)) (flagsOf (bindMarks plain (linesOf (now (text .entry))))) (now (marks .exit)) (length (linesOf (now (text .entry)))) ⌝ }
+    ensures memory { λ _. ⌜ Filled (now (marks .entry)) (bindNotes plain (linesOf (now (text .entry)))) (now (marks .exit)) (length (linesOf (now (text .entry)))) ⌝ }
 {
     let mut recs = records::window();
     walk_lines(
@@ -684,7 +716,7 @@ fn walk(
 ) -> usize
     requires { ⌜ WalkedSites (now text) (now ends) n (now blocks) (now starts) (now marks) (now out) ⌝ }
     ensures answer { λ r. ⌜ Wrote (now (out .entry)) 0 (unlines (bindDeclarators plain (linesOf (now (text .entry))))) (now (out .exit)) r ⌝ }
-    ensures memory { λ _. ⌜ Filled (now (marks .entry)) (flagsOf (bindMarks plain (linesOf (now (text .entry))))) (now (marks .exit)) (length (linesOf (now (text .entry)))) ⌝ }
+    ensures memory { λ _. ⌜ Filled (now (marks .entry)) (bindNotes plain (linesOf (now (text .entry)))) (now (marks .exit)) (length (linesOf (now (text .entry)))) ⌝ }
     ensures index { λ _. ⌜ (now (seen .exit) ≡ replicate (length (now (seen .entry))) 0) × (now (first .exit) ≡ replicate (length (now (first .entry))) 0) ⌝ }
 {
     let h = slots::shorter(seen.len(), first.len());
@@ -707,8 +739,8 @@ fn walk(
 
 // A register that is declared once and stored once, with that store its first use, on a later line of its region and block that starts a
 // statement, leaves its declaration, and its store becomes one. Each line is followed by one LF. `ends`, `blocks`, `starts` and `up` are
-// left as `place::place_lines` fills them, and `marks` says for each line whether it was such a store. `seen` and `first` are room for the
-// index of a region, where `own` says which places are those of high registers; they are left with zeros.
+// left as `place::place_lines` fills them, and `marks` says of each line 2 where it is gone, else 1 where it was such a store (moves_of).
+// `seen` and `first` are room for the index of a region, where `own` says which places are those of high registers; they are left with zeros.
 pub fn bind_declarators(
     text: &[u8],
     own: &[usize],
@@ -730,11 +762,34 @@ pub fn bind_declarators(
     ensures tables { λ _. ⌜ (Filled (now (blocks .entry)) (blockIds (linesOf (now (text .entry)))) (now (blocks .exit)) (length (linesOf (now (text .entry)))))
         × ((Filled (now (starts .entry)) (flagsOf (startsGo (cleaned (linesOf (now (text .entry)))) true)) (now (starts .exit)) (length (linesOf (now (text .entry)))))
         × (Filled (now (up .entry)) (idsParents (linesOf (now (text .entry)))) (now (up .exit)) (length (idsParents (linesOf (now (text .entry))))))) ⌝ }
-    ensures marked { λ _. ⌜ Filled (now (marks .entry)) (flagsOf (bindMarks plain (linesOf (now (text .entry))))) (now (marks .exit)) (length (linesOf (now (text .entry)))) ⌝ }
+    ensures marked { λ _. ⌜ Filled (now (marks .entry)) (bindNotes plain (linesOf (now (text .entry)))) (now (marks .exit)) (length (linesOf (now (text .entry)))) ⌝ }
     ensures index { λ _. ⌜ (now (seen .exit) ≡ replicate (length (now (seen .entry))) 0) × (now (first .exit) ≡ replicate (length (now (first .entry))) 0) ⌝ }
     ensures ends { λ _. ⌜ Filled (now (ends .entry)) (endMarks 0 (linesOf (now (text .entry)))) (now (ends .exit)) (length (linesOf (now (text .entry)))) ⌝ }
 {
     let n = place::place_lines(text, blocks, starts, up, ends);
     clear(marks, n);
     walk(text, own, ends, n, blocks, starts, seen, first, marks, out)
+}
+
+// Writes the moves of lines by their marks, as bind_declarators leaves them, and returns how many there are.
+pub fn moves_of(marks: &[u8], moves: &mut [usize]) -> usize
+    requires { ⌜ length (now marks) ≤ length (now moves) ⌝ }
+    ensures { λ r. ⌜ Wrote (now (moves .entry)) 0 (noteMoves (now (marks .entry))) (now (moves .exit)) r ⌝ }
+{
+    let mut i = 0;
+    while i < marks.len() {
+        moves[i] = move_at(marks[i]);
+        i += 1;
+    }
+    i
+}
+
+// The move of a line by its mark.
+fn move_at(m: u8) -> usize
+    ensures { λ r. ⌜ r ≡ cond (eqb m 2) farMove 0 ⌝ }
+{
+    if m == AWAY {
+        return origins::FAR;
+    }
+    0
 }

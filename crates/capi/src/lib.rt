@@ -3,7 +3,7 @@ ghost use mathlib.Core.Path.{_≡_};
 ghost use Rattle.limits.specs.Answer.{numberOf, lengthOf, placeOf};
 ghost use Rattle.limits.specs.Entry.{small, outAfter};
 ghost use Rattle.opt.specs.Room.{After};
-ghost use Rattle.capi.specs.Called.{tidied, passed, tidyAnswer, onePassAnswer};
+ghost use Rattle.capi.specs.Called.{tidied, passed, tidiedOrigins, passedOrigins, tidyAnswer, onePassAnswer};
 
 // Runs all passes over a text, in mode 0 (plain) or 1 (strict). Returns the number of the answer, and stores its length and its place.
 #[no_mangle]
@@ -17,16 +17,18 @@ pub extern "C" fn optlines_optimize(
     e: &mut [u8],
     u: &mut [u32],
     out: &mut [u8],
+    orig: &mut [u8],
     size: &mut usize,
     place: &mut usize,
 ) -> u8
-    ensures number { λ r. ⌜ r ≡ numberOf (tidyAnswer mode (now (text .entry)) (now (a .entry)) (now (b .entry)) (now (c .entry)) (now (d .entry)) (now (e .entry)) (now (u .entry)) (now (out .entry))) ⌝ }
-    ensures size { λ _. ⌜ now (size .exit) ≡ lengthOf (tidyAnswer mode (now (text .entry)) (now (a .entry)) (now (b .entry)) (now (c .entry)) (now (d .entry)) (now (e .entry)) (now (u .entry)) (now (out .entry))) ⌝ }
-    ensures place { λ _. ⌜ now (place .exit) ≡ placeOf (tidyAnswer mode (now (text .entry)) (now (a .entry)) (now (b .entry)) (now (c .entry)) (now (d .entry)) (now (e .entry)) (now (u .entry)) (now (out .entry))) ⌝ }
-    ensures result { λ _. ⌜ now (out .exit) ≡ outAfter (tidyAnswer mode (now (text .entry)) (now (a .entry)) (now (b .entry)) (now (c .entry)) (now (d .entry)) (now (e .entry)) (now (u .entry)) (now (out .entry))) (tidied mode (now (text .entry))) (now (out .entry)) ⌝ }
-    ensures work { λ _. ⌜ After small (tidyAnswer mode (now (text .entry)) (now (a .entry)) (now (b .entry)) (now (c .entry)) (now (d .entry)) (now (e .entry)) (now (u .entry)) (now (out .entry))) (now (a .entry)) (now (b .entry)) (now (c .entry)) (now (d .entry)) (now (e .entry)) (now (u .entry)) (now (a .exit)) (now (b .exit)) (now (c .exit)) (now (d .exit)) (now (e .exit)) (now (u .exit)) ⌝ }
+    ensures number { λ r. ⌜ r ≡ numberOf (tidyAnswer mode (now (text .entry)) (now (a .entry)) (now (b .entry)) (now (c .entry)) (now (d .entry)) (now (e .entry)) (now (u .entry)) (now (out .entry)) (now (orig .entry))) ⌝ }
+    ensures size { λ _. ⌜ now (size .exit) ≡ lengthOf (tidyAnswer mode (now (text .entry)) (now (a .entry)) (now (b .entry)) (now (c .entry)) (now (d .entry)) (now (e .entry)) (now (u .entry)) (now (out .entry)) (now (orig .entry))) ⌝ }
+    ensures place { λ _. ⌜ now (place .exit) ≡ placeOf (tidyAnswer mode (now (text .entry)) (now (a .entry)) (now (b .entry)) (now (c .entry)) (now (d .entry)) (now (e .entry)) (now (u .entry)) (now (out .entry)) (now (orig .entry))) ⌝ }
+    ensures result { λ _. ⌜ now (out .exit) ≡ outAfter (tidyAnswer mode (now (text .entry)) (now (a .entry)) (now (b .entry)) (now (c .entry)) (now (d .entry)) (now (e .entry)) (now (u .entry)) (now (out .entry)) (now (orig .entry))) (tidied mode (now (text .entry))) (now (out .entry)) ⌝ }
+    ensures records { λ _. ⌜ now (orig .exit) ≡ outAfter (tidyAnswer mode (now (text .entry)) (now (a .entry)) (now (b .entry)) (now (c .entry)) (now (d .entry)) (now (e .entry)) (now (u .entry)) (now (out .entry)) (now (orig .entry))) (tidiedOrigins mode (now (text .entry))) (now (orig .entry)) ⌝ }
+    ensures work { λ _. ⌜ After small (tidyAnswer mode (now (text .entry)) (now (a .entry)) (now (b .entry)) (now (c .entry)) (now (d .entry)) (now (e .entry)) (now (u .entry)) (now (out .entry)) (now (orig .entry))) (now (a .entry)) (now (b .entry)) (now (c .entry)) (now (d .entry)) (now (e .entry)) (now (u .entry)) (now (a .exit)) (now (b .exit)) (now (c .exit)) (now (d .exit)) (now (e .exit)) (now (u .exit)) ⌝ }
 {
-    let answer = opt::optimize(mode, text, a, b, c, d, e, u, out);
+    let answer = opt::optimize(mode, text, a, b, c, d, e, u, out, orig);
     *size = limits::length_of(answer);
     *place = limits::place_of(answer);
     limits::number_of(answer)
@@ -45,16 +47,18 @@ pub extern "C" fn optlines_run_pass(
     e: &mut [u8],
     u: &mut [u32],
     out: &mut [u8],
+    orig: &mut [u8],
     size: &mut usize,
     place: &mut usize,
 ) -> u8
-    ensures number { λ r. ⌜ r ≡ numberOf (onePassAnswer pass mode (now (text .entry)) (now (a .entry)) (now (b .entry)) (now (c .entry)) (now (d .entry)) (now (e .entry)) (now (u .entry)) (now (out .entry))) ⌝ }
-    ensures size { λ _. ⌜ now (size .exit) ≡ lengthOf (onePassAnswer pass mode (now (text .entry)) (now (a .entry)) (now (b .entry)) (now (c .entry)) (now (d .entry)) (now (e .entry)) (now (u .entry)) (now (out .entry))) ⌝ }
-    ensures place { λ _. ⌜ now (place .exit) ≡ placeOf (onePassAnswer pass mode (now (text .entry)) (now (a .entry)) (now (b .entry)) (now (c .entry)) (now (d .entry)) (now (e .entry)) (now (u .entry)) (now (out .entry))) ⌝ }
-    ensures result { λ _. ⌜ now (out .exit) ≡ outAfter (onePassAnswer pass mode (now (text .entry)) (now (a .entry)) (now (b .entry)) (now (c .entry)) (now (d .entry)) (now (e .entry)) (now (u .entry)) (now (out .entry))) (passed pass mode (now (text .entry))) (now (out .entry)) ⌝ }
-    ensures work { λ _. ⌜ After small (onePassAnswer pass mode (now (text .entry)) (now (a .entry)) (now (b .entry)) (now (c .entry)) (now (d .entry)) (now (e .entry)) (now (u .entry)) (now (out .entry))) (now (a .entry)) (now (b .entry)) (now (c .entry)) (now (d .entry)) (now (e .entry)) (now (u .entry)) (now (a .exit)) (now (b .exit)) (now (c .exit)) (now (d .exit)) (now (e .exit)) (now (u .exit)) ⌝ }
+    ensures number { λ r. ⌜ r ≡ numberOf (onePassAnswer pass mode (now (text .entry)) (now (a .entry)) (now (b .entry)) (now (c .entry)) (now (d .entry)) (now (e .entry)) (now (u .entry)) (now (out .entry)) (now (orig .entry))) ⌝ }
+    ensures size { λ _. ⌜ now (size .exit) ≡ lengthOf (onePassAnswer pass mode (now (text .entry)) (now (a .entry)) (now (b .entry)) (now (c .entry)) (now (d .entry)) (now (e .entry)) (now (u .entry)) (now (out .entry)) (now (orig .entry))) ⌝ }
+    ensures place { λ _. ⌜ now (place .exit) ≡ placeOf (onePassAnswer pass mode (now (text .entry)) (now (a .entry)) (now (b .entry)) (now (c .entry)) (now (d .entry)) (now (e .entry)) (now (u .entry)) (now (out .entry)) (now (orig .entry))) ⌝ }
+    ensures result { λ _. ⌜ now (out .exit) ≡ outAfter (onePassAnswer pass mode (now (text .entry)) (now (a .entry)) (now (b .entry)) (now (c .entry)) (now (d .entry)) (now (e .entry)) (now (u .entry)) (now (out .entry)) (now (orig .entry))) (passed pass mode (now (text .entry))) (now (out .entry)) ⌝ }
+    ensures records { λ _. ⌜ now (orig .exit) ≡ outAfter (onePassAnswer pass mode (now (text .entry)) (now (a .entry)) (now (b .entry)) (now (c .entry)) (now (d .entry)) (now (e .entry)) (now (u .entry)) (now (out .entry)) (now (orig .entry))) (passedOrigins pass mode (now (text .entry))) (now (orig .entry)) ⌝ }
+    ensures work { λ _. ⌜ After small (onePassAnswer pass mode (now (text .entry)) (now (a .entry)) (now (b .entry)) (now (c .entry)) (now (d .entry)) (now (e .entry)) (now (u .entry)) (now (out .entry)) (now (orig .entry))) (now (a .entry)) (now (b .entry)) (now (c .entry)) (now (d .entry)) (now (e .entry)) (now (u .entry)) (now (a .exit)) (now (b .exit)) (now (c .exit)) (now (d .exit)) (now (e .exit)) (now (u .exit)) ⌝ }
 {
-    let answer = opt::run_pass(pass, mode, text, a, b, c, d, e, u, out);
+    let answer = opt::run_pass(pass, mode, text, a, b, c, d, e, u, out, orig);
     *size = limits::length_of(answer);
     *place = limits::place_of(answer);
     limits::number_of(answer)

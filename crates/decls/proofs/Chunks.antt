@@ -45,7 +45,7 @@ module _ (t : List ℕ) (c i e n : ℕ) (h : c ≤ i) (k : i < length t) (q : e 
   inside : e ≤ length t
   inside = omega (arith, upTo-le 10 (drop i t), length-drop i t)
 
-  one-line : linesOf (part i n t) ≡ part i e t ∷ []
+  pub one-line : linesOf (part i n t) ≡ part i e t ∷ []
   unfolding linesOf
   one-line =
       let l : List ℕ = part i n t in

@@ -9,4 +9,5 @@ pub mod Writes
 pub mod Passes
 pub mod Keeps
 pub mod Decl
+pub mod Moves
 pub mod Examples

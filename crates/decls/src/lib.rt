@@ -4,6 +4,7 @@ mod seen;
 
 ghost use mathlib.Core.Path.{_≡_};
 ghost use mathlib.Core.Bool.{true, false, cond};
+ghost use mathlib.Core.List.{[], _∷_, _++_};
 ghost use Prim.Native.Nat.{_≤_, _<_, _+_, _-_, _^_};
 ghost use lib.Dec.{ltb};
 ghost use lib.ListN.{length, drop, replicate};
@@ -14,7 +15,8 @@ ghost use Rattle.names.specs.Names.{regOf};
 ghost use Rattle.parse.specs.Parse.{isDecl};
 ghost use Rattle.place.specs.Region.{region};
 ghost use Rattle.place.specs.Inner.Region.{regionLen};
-ghost use Rattle.decls.specs.Decls.{pruneDecls};
+ghost use Rattle.origins.specs.Inner.Codes.{movesOf, noteOf};
+ghost use Rattle.decls.specs.Decls.{pruneDeclsActs, pruneDecls};
 ghost use Rattle.decls.specs.Inner.Decls.{stays, lineText};
 ghost use Rattle.decls.specs.Inner.Print.{kept, declText};
 ghost use Rattle.decls.specs.Inner.Seen.{AtMost, Says, seenStays, markLines};
@@ -113,10 +115,26 @@ fn put_line(
     )
 }
 
+// Notes that the lines of `held` stay, and after them whether a declaration is gone: where nothing was written of it, from `o` up to `p`.
+fn note_decl(held: &[u8], moves: &mut [usize], k: usize, o: usize, p: usize) -> usize
+    requires { ⌜ k + length (linesOf (now held)) < length (now moves) ⌝ }
+    ensures { λ r. ⌜ Wrote (now (moves .entry)) k (replicate (length (linesOf (now (held .entry)))) 0 ++ (noteOf o p ∷ [])) (now (moves .exit)) r ⌝ }
+{
+    let n = origins::stay_lines(held, moves, k);
+    origins::note(moves, n, o, p)
+}
+
 // The same as prune_decls, with a table of registers that holds no mark. The lines from `c` on stay as they are, and are yet to be written.
-fn prune_with(text: &[u8], own: &[usize], seen: &mut [usize], out: &mut [u8]) -> usize
-    requires { ⌜ (AtMost 0 (now seen)) × (length (unlines (pruneDecls (linesOf (now text)))) ≤ length (now out)) ⌝ }
-    ensures { λ r. ⌜ Wrote (now (out .entry)) 0 (unlines (pruneDecls (linesOf (now (text .entry))))) (now (out .exit)) r ⌝ }
+fn prune_with(
+    text: &[u8],
+    own: &[usize],
+    seen: &mut [usize],
+    out: &mut [u8],
+    moves: &mut [usize],
+) -> usize
+    requires { ⌜ (AtMost 0 (now seen)) × ((length (unlines (pruneDecls (linesOf (now text)))) ≤ length (now out)) × (length (linesOf (now text)) ≤ length (now moves))) ⌝ }
+    ensures answer { λ r. ⌜ Wrote (now (out .entry)) 0 (unlines (pruneDecls (linesOf (now (text .entry))))) (now (out .exit)) r ⌝ }
+    ensures moves { λ _. ⌜ Wrote (now (moves .entry)) 0 (movesOf (pruneDeclsActs (linesOf (now (text .entry))))) (now (moves .exit)) (length (linesOf (now (text .entry)))) ⌝ }
 {
     let mut a = 0;
     let mut b = 0;
@@ -124,6 +142,7 @@ fn prune_with(text: &[u8], own: &[usize], seen: &mut [usize], out: &mut [u8]) ->
     let mut c = 0;
     let mut i = 0;
     let mut o = 0;
+    let mut row = 0;
     while i < text.len() {
         let e = lines::find_byte(text, i, 10);
         let line = &text[i..e];
@@ -135,26 +154,37 @@ fn prune_with(text: &[u8], own: &[usize], seen: &mut [usize], out: &mut [u8]) ->
             let k = seen::mark_once(text, own, a, b, m, i, n, seen);
             m = k.mark;
             b = k.end;
-            let p = lines::put(out, o, &text[c..i]);
+            let held = &text[c..i];
+            let p = lines::put(out, o, held);
             o = put_line(line, &text[a..b], own, m, seen, out, p);
+            row = note_decl(held, moves, row, p, o);
             c = n;
             i = k.next;
         } else {
             i = lines::after(text, e);
         }
     }
-    lines::put_lines(&text[c..], out, o)
+    let rest = &text[c..];
+    origins::stay_lines(rest, moves, row);
+    lines::put_lines(rest, out, o)
 }
 
 // Writes the lines of a text without the declared registers that their region neither reads nor stores. `own` has the owners of places in the table of
-// registers, which is 0 afterwards.
-pub fn prune_decls(text: &[u8], own: &[usize], seen: &mut [usize], out: &mut [u8]) -> usize
-    requires { ⌜ length (unlines (pruneDecls (linesOf (now text)))) ≤ length (now out) ⌝ }
+// registers, which is 0 afterwards; `moves` gets the move of each line.
+pub fn prune_decls(
+    text: &[u8],
+    own: &[usize],
+    seen: &mut [usize],
+    out: &mut [u8],
+    moves: &mut [usize],
+) -> usize
+    requires { ⌜ (length (unlines (pruneDecls (linesOf (now text)))) ≤ length (now out)) × (length (linesOf (now text)) ≤ length (now moves)) ⌝ }
     ensures answer { λ r. ⌜ Wrote (now (out .entry)) 0 (unlines (pruneDecls (linesOf (now (text .entry))))) (now (out .exit)) r ⌝ }
     ensures memory { λ _. ⌜ now (seen .exit) ≡ replicate (length (now (seen .entry))) 0 ⌝ }
+    ensures moves { λ _. ⌜ Wrote (now (moves .entry)) 0 (movesOf (pruneDeclsActs (linesOf (now (text .entry))))) (now (moves .exit)) (length (linesOf (now (text .entry)))) ⌝ }
 {
     slots::wipe(seen);
-    let n = prune_with(text, own, seen, out);
+    let n = prune_with(text, own, seen, out, moves);
     slots::wipe(seen);
     n
 }

@@ -1,4 +1,5 @@
 pub mod Cuts
+pub mod Records
 pub mod Split
 pub mod Texts
 pub mod Strict

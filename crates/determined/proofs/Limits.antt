@@ -41,4 +41,4 @@ refused-task-fixed = fixed limits.refused_task.Reads.Learnt (λ κs a x y l m. l
 pub finish-fixed : Determined limits.finish.ended (λ κs z. z) limits.finish.Reads.ensures
 finish-fixed = fixed-by limits.finish.Reads.Learnt (λ w κs a x. more w (one w)) (λ κs a x y l m.
     let p = l .0 ∙ sym (m .0) in
-    (out-once (joined (a .1 .0) (linesOf (now (a .0)))) (now (a .1 .1 .0)) p (l .1) (m .1), p))
+    (out-once (joined (a .1 .0) (linesOf (now (a .0)))) (now (a .1 .1 .1 .1 .0)) p (l .1) (m .1), p))

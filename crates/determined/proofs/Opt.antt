@@ -6,9 +6,10 @@ use denote.Ref.{now}
 use Rattle.reading.specs.Reading.{readingOf}
 use Rattle.limits.specs.declared.Limits.{Limits}
 use Rattle.limits.specs.declared.Answer.{Answer}
-use Rattle.steps.specs.Step.{stepOf}
-use Rattle.passes.specs.Passes.{resultOf}
-use Rattle.opt.specs.Whole.{whole}
+use Rattle.steps.specs.Step.{stepOf, stepFates}
+use Rattle.passes.specs.Passes.{resultOf, originsOf}
+use Rattle.passes.specs.Inner.Passes.{stepsOf, stepsFates}
+use Rattle.opt.specs.Whole.{whole, wholeFates}
 use Rattle.limits.specs.Entry.{byteSize, blockSize, workAfter}
 use Rattle.opt.specs.Room.{After}
 use Rattle.opt.proofs as opt
@@ -36,11 +37,19 @@ after-once {L} {r₁} {r₂} {a} {b} {c} {d} {e} {u} p f g rest = (
 )
 
 pub optimize-fixed : Determined opt.optimize.ended (λ κs z. z) opt.optimize.Reads.ensures
-optimize-fixed = fixed-by opt.optimize.Reads.Learnt (λ w κs a x. more w (one w)) (λ κs a x y l m.
+optimize-fixed = fixed-by opt.optimize.Reads.Learnt (λ w κs a x. more w (more w (one w))) (λ κs a x y l m.
     let p = l .0 ∙ sym (m .0) in
-    after-once p (l .1 .1) (m .1 .1) (out-once (resultOf (whole (readingOf (a .0))) (now (a .1 .0))) (now (a .1 .1 .1 .1 .1 .1 .1 .1 .0)) p (l .1 .0) (m .1 .0), p))
+    let R = readingOf (a .0) in
+    after-once p (l .1 .0 .1) (m .1 .0 .1) (out-once (resultOf (whole R) (now (a .1 .0))) (now (a .1 .1 .1 .1 .1 .1 .1 .1 .0)) p (l .1 .0 .0) (m .1 .0 .0), (out-once (originsOf (whole R) (wholeFates R) (now (a .1 .0))) (now (a .1 .1 .1 .1 .1 .1 .1 .1 .1 .0)) p (l .1 .1) (m .1 .1), p)))
 
 pub run-pass-fixed : Determined opt.run_pass.ended (λ κs z. z) opt.run_pass.Reads.ensures
-run-pass-fixed = fixed-by opt.run_pass.Reads.Learnt (λ w κs a x. more w (one w)) (λ κs a x y l m.
+run-pass-fixed = fixed-by opt.run_pass.Reads.Learnt (λ w κs a x. more w (more w (one w))) (λ κs a x y l m.
     let p = l .0 ∙ sym (m .0) in
-    after-once p (l .1 .1) (m .1 .1) (out-once (resultOf (stepOf (readingOf (a .1 .0)) (a .0)) (now (a .1 .1 .0))) (now (a .1 .1 .1 .1 .1 .1 .1 .1 .1 .0)) p (l .1 .0) (m .1 .0), p))
+    let R = readingOf (a .1 .0) in
+    after-once p (l .1 .0 .1) (m .1 .0 .1) (out-once (resultOf (stepOf R (a .0)) (now (a .1 .1 .0))) (now (a .1 .1 .1 .1 .1 .1 .1 .1 .1 .0)) p (l .1 .0 .0) (m .1 .0 .0), (out-once (originsOf (stepOf R (a .0)) (stepFates R (a .0)) (now (a .1 .1 .0))) (now (a .1 .1 .1 .1 .1 .1 .1 .1 .1 .1 .0)) p (l .1 .1) (m .1 .1), p)))
+
+pub run-stages-fixed : Determined opt.run_stages.ended (λ κs z. z) opt.run_stages.Reads.ensures
+run-stages-fixed = fixed-by opt.run_stages.Reads.Learnt (λ w κs a x. more w (more w (one w))) (λ κs a x y l m.
+    let p = l .0 ∙ sym (m .0) in
+    let R = readingOf (a .1 .0) in
+    after-once p (l .1 .0 .1) (m .1 .0 .1) (out-once (resultOf (stepsOf R 0 (a .0)) (now (a .1 .1 .0))) (now (a .1 .1 .1 .1 .1 .1 .1 .1 .1 .0)) p (l .1 .0 .0) (m .1 .0 .0), (out-once (originsOf (stepsOf R 0 (a .0)) (stepsFates R 0 (a .0)) (now (a .1 .1 .0))) (now (a .1 .1 .1 .1 .1 .1 .1 .1 .1 .1 .0)) p (l .1 .1) (m .1 .1), p)))

@@ -5,5 +5,5 @@ use Rattle.phis.proofs as phis
 use Rattle.determined.proofs.Outcomes.{Determined, fixed-by, one, more}
 
 pub prune-dead-phis-fixed : Determined phis.prune_dead_phis.ended (λ κs z. z) phis.prune_dead_phis.Reads.ensures
-prune-dead-phis-fixed = fixed-by phis.prune_dead_phis.Reads.Learnt (λ w κs a x. more w (more w (more w (more w (one w))))) (λ κs a x y l m.
-    (l .1 .1 .1 .1 ∙ sym (m .1 .1 .1 .1), (wrote-once (l .1 .1 .1 .0) (m .1 .1 .1 .0) .0, (wrote-once (l .1 .0) (m .1 .0) .0, (wrote-once (l .1 .1 .0) (m .1 .1 .0) .0, wrote-once (l .0) (m .0))))))
+prune-dead-phis-fixed = fixed-by phis.prune_dead_phis.Reads.Learnt (λ w κs a x. more w (more w (more w (more w (more w (one w)))))) (λ κs a x y l m.
+    (l .1 .1 .1 .1 .0 ∙ sym (m .1 .1 .1 .1 .0), (wrote-once (l .1 .1 .1 .0) (m .1 .1 .1 .0) .0, (wrote-once (l .1 .0) (m .1 .0) .0, (wrote-once (l .1 .1 .0) (m .1 .1 .0) .0, (wrote-once (l .0) (m .0) .0, (wrote-once (l .1 .1 .1 .1 .1) (m .1 .1 .1 .1 .1) .0, wrote-once (l .0) (m .0) .1)))))))

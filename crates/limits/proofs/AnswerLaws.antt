@@ -22,9 +22,9 @@ use Rattle.flaws.specs.declared.Flaw.the-variants as flaw-is
 use Rattle.flaws.specs.Flaws.{flawOf}
 use Rattle.limits.specs.declared.Limits.{Limits}
 use Rattle.limits.specs.declared.Answer.{Answer}
-use Rattle.limits.specs.declared.Answer.the-variants.{Done, BadPass, TooLong, ShortWork, TooManyLines, Crowded, ShortResult, BadMode}
+use Rattle.limits.specs.declared.Answer.the-variants.{Done, BadPass, TooLong, ShortWork, TooManyLines, Crowded, ShortResult, BadMode, ShortRecords}
 use Rattle.limits.specs.Answer.{numberOf, lengthOf, placeOf, passesRan, isDone}
-use Rattle.limits.specs.Entry.{small, byFlaw, byUtf8, byCrowd, checkedLines, checked, roomed, answerOf, modes, inMode, wholeAnswer, passAnswer, blank, workAfter, outAfter}
+use Rattle.limits.specs.Entry.{small, byFlaw, byUtf8, byCrowd, checkedLines, checked, recordsNeed, roomed, answerOf, modes, inMode, wholeAnswer, passAnswer, blank, workAfter, outAfter}
 use Rattle.limits.specs.Inner.Sane.{Sane, Within}
 
 -- ---- one check after the other
@@ -130,13 +130,14 @@ pub out-kept : (r : Answer) (xs d : List ℕ) → isDone r ≡ false → d ≡ o
 unfolding outAfter
 out-kept r xs d h = rw h
 
-pub roomed-runs : (n room : ℕ) → passesRan (roomed n room) ≡ true
+pub roomed-runs : (n room need have : ℕ) → passesRan (roomed n room need have) ≡ true
 unfolding passesRan
-roomed-runs n room = go (ltb room n)
+roomed-runs n room need have = go (ltb room n) (ltb have need)
   where
-    go : (b : Bool) → passesRan (cond b (ShortResult n) (Done n)) ≡ true
-    go true = refl
-    go false = refl
+    go : (b k : Bool) → passesRan (cond b (ShortResult n) (cond k (ShortRecords need) (Done n))) ≡ true
+    go true k = refl
+    go false true = refl
+    go false false = refl
 
 pub work-wiped : (r : Answer) (n : ℕ) (d : List ℕ) {d′ : List ℕ} → passesRan r ≡ true → d′ ≡ blank n ++ drop n d → d′ ≡ workAfter r n d
 unfolding workAfter
@@ -186,22 +187,22 @@ unfolding passesRan
 mode-stops true L short t h x = refused-by L short t h x
 mode-stops false L short t h x = (refl, refl)
 
-pub answer-refused : (r : Answer) (L : Limits) (mode : ℕ) (short : Bool) (t xs : List ℕ) (room : ℕ) → r ≡ inMode mode (checked L short t (Done 0)) → isDone r ≡ false → (r ≡ wholeAnswer L mode short t xs room) × (passesRan r ≡ false)
+pub answer-refused : (r : Answer) (L : Limits) (mode : ℕ) (short : Bool) (t xs : List ℕ) (room have : ℕ) → r ≡ inMode mode (checked L short t (Done 0)) → isDone r ≡ false → (r ≡ wholeAnswer L mode short t xs room have) × (passesRan r ≡ false)
 unfolding wholeAnswer answerOf
-answer-refused r L mode short t xs room e h = let p = mode-stops (ltb mode modes) L short t (ap isDone (sym e) ∙ h) (roomed (length xs) room) in (e ∙ sym (p .0), ap passesRan e ∙ p .1)
+answer-refused r L mode short t xs room have e h = let p = mode-stops (ltb mode modes) L short t (ap isDone (sym e) ∙ h) (roomed (length xs) room (recordsNeed t) have) in (e ∙ sym (p .0), ap passesRan e ∙ p .1)
 
-pub answer-accepted : {r : Answer} (L : Limits) (mode : ℕ) (short : Bool) (t xs : List ℕ) (room : ℕ) → ((y : Answer) → inMode mode y ≡ y) → Accepted L short t → r ≡ roomed (length xs) room → r ≡ wholeAnswer L mode short t xs room
+pub answer-accepted : {r : Answer} (L : Limits) (mode : ℕ) (short : Bool) (t xs : List ℕ) (room have : ℕ) → ((y : Answer) → inMode mode y ≡ y) → Accepted L short t → r ≡ roomed (length xs) room (recordsNeed t) have → r ≡ wholeAnswer L mode short t xs room have
 unfolding wholeAnswer answerOf
-answer-accepted L mode short t xs room m p e = e ∙ sym (p .same (roomed (length xs) room)) ∙ sym (m (checked L short t (roomed (length xs) room)))
+answer-accepted L mode short t xs room have m p e = e ∙ sym (p .same (roomed (length xs) room (recordsNeed t) have)) ∙ sym (m (checked L short t (roomed (length xs) room (recordsNeed t) have)))
 
 -- ---- the number of a pass
 
-module _ (L : Limits) (k mode : ℕ) (short : Bool) (t xs : List ℕ) (room : ℕ) where
-  pub pass-bad : within 1 6 k ≡ false → BadPass ≡ passAnswer L k mode short t xs room
+module _ (L : Limits) (k mode : ℕ) (short : Bool) (t xs : List ℕ) (room have : ℕ) where
+  pub pass-bad : within 1 6 k ≡ false → BadPass ≡ passAnswer L k mode short t xs room have
   unfolding passAnswer
   pass-bad h = rw h
 
-  pub pass-good : within 1 6 k ≡ true → wholeAnswer L mode short t xs room ≡ passAnswer L k mode short t xs room
+  pub pass-good : within 1 6 k ≡ true → wholeAnswer L mode short t xs room have ≡ passAnswer L k mode short t xs room have
   unfolding passAnswer
   pass-good h = rw h
 
@@ -215,15 +216,22 @@ bad-done = refl
 
 -- ---- the last step
 
-pub roomed-short : (n room : ℕ) {m : ℕ} → m ≡ n → room < m → ShortResult m ≡ roomed n room
-roomed-short n room e l = rw (e, lt-ltb room n (omega arith))
+pub roomed-short : (n room need have : ℕ) {m : ℕ} → m ≡ n → room < m → ShortResult m ≡ roomed n room need have
+roomed-short n room need have e l = rw (e, lt-ltb room n (omega arith))
 
-pub roomed-done : (n room : ℕ) {m : ℕ} → m ≡ 0 + n → n ≤ room → Done m ≡ roomed n room
-roomed-done n room {m} e l = let q : m ≡ n = omega arith in rw (q, le-ltb room n l)
+pub roomed-records : (n room need have : ℕ) {m : ℕ} → m ≡ n → m ≤ room → have < need → ShortRecords need ≡ roomed n room need have
+roomed-records n room need have e l k = rw (le-ltb room n (omega arith), lt-ltb have need k)
+
+pub roomed-done : (n room need have : ℕ) {m : ℕ} → m ≡ 0 + n → n ≤ room → need ≤ have → Done m ≡ roomed n room need have
+roomed-done n room need have {m} e l k = let q : m ≡ n = omega arith in rw (q, le-ltb room n l, le-ltb have need k)
 
 pub out-short : (n : ℕ) (xs d : List ℕ) → d ≡ outAfter (ShortResult n) xs d
 unfolding outAfter isDone
 out-short n xs d = refl
+
+pub out-unrecorded : (n : ℕ) (xs d : List ℕ) → d ≡ outAfter (ShortRecords n) xs d
+unfolding outAfter isDone
+out-unrecorded n xs d = refl
 
 pub out-done : {d xs d′ : List ℕ} {r : ℕ} → Wrote d 0 xs d′ r → d′ ≡ outAfter (Done r) xs d
 unfolding outAfter isDone putAt

@@ -3,7 +3,7 @@ use Prim.Native.Nat.{ℕ}
 use mathlib.Core.Bool.{Bool, _||_}
 use lib.Dec.{eqb}
 use Rattle.limits.specs.declared.Answer.{Answer}
-use Rattle.limits.specs.declared.Answer.the-variants.{Done, BadPass, TooLong, ShortWork, NotUtf8, TooManyLines, Crowded, ShortResult, Cut, Overlong, Outside, BadMode}
+use Rattle.limits.specs.declared.Answer.the-variants.{Done, BadPass, TooLong, ShortWork, NotUtf8, TooManyLines, Crowded, ShortResult, Cut, Overlong, Outside, BadMode, ShortRecords}
 
 unfoldable pub numberOf : Answer → ℕ
 numberOf (Done n) = 0
@@ -18,6 +18,7 @@ numberOf (Cut i) = 9
 numberOf (Overlong i) = 10
 numberOf (Outside i) = 11
 numberOf BadMode = 12
+numberOf (ShortRecords n) = 8
 
 -- a refusal has length 0
 unfoldable pub lengthOf : Answer → ℕ
@@ -33,6 +34,7 @@ lengthOf (Cut i) = 0
 lengthOf (Overlong i) = 0
 lengthOf (Outside i) = 0
 lengthOf BadMode = 0
+lengthOf (ShortRecords n) = 0
 
 unfoldable pub placeOf : Answer → ℕ
 placeOf (Done n) = 0
@@ -47,13 +49,14 @@ placeOf (Cut i) = i
 placeOf (Overlong i) = i
 placeOf (Outside i) = i
 placeOf BadMode = 0
+placeOf (ShortRecords n) = n
 
 -- the result was written: number 0
 unfoldable pub isDone : Answer → Bool
 unfolding numberOf
 isDone r = eqb (numberOf r) 0
 
--- the passes ran: numbers 0 and 7
+-- the passes ran: numbers 0, 7 and 8
 unfoldable pub passesRan : Answer → Bool
 unfolding numberOf
-passesRan r = eqb (numberOf r) 0 || eqb (numberOf r) 7
+passesRan r = eqb (numberOf r) 0 || (eqb (numberOf r) 7 || eqb (numberOf r) 8)

@@ -17,7 +17,7 @@ use Rattle.flaws.specs.declared.Flaw.the-variants as flaw-is
 use Rattle.flaws.specs.Flaws.{flawOf}
 use Rattle.limits.specs.declared.Limits.{Limits}
 use Rattle.limits.specs.declared.Answer.{Answer}
-use Rattle.limits.specs.declared.Answer.the-variants.{Done, BadPass, TooLong, ShortWork, NotUtf8, TooManyLines, Crowded, ShortResult, Cut, Overlong, Outside, BadMode}
+use Rattle.limits.specs.declared.Answer.the-variants.{Done, BadPass, TooLong, ShortWork, NotUtf8, TooManyLines, Crowded, ShortResult, Cut, Overlong, Outside, BadMode, ShortRecords}
 use Rattle.limits.specs.Answer.{passesRan, isDone}
 
 -- the most bytes and the most lines of a text that `optimize` and `run_pass` take
@@ -68,28 +68,32 @@ checked L short t fine =
     (cond short ShortWork
     (byUtf8 (utf8Of t) t (checkedLines L t fine)))
 
--- the result is n bytes long, and the result buffer `room`
-abbrev pub roomed : ℕ → ℕ → Answer
-roomed n room = cond (ltb room n) (ShortResult n) (Done n)
+-- how many bytes the records of a text take: 7 for each line
+abbrev pub recordsNeed : List ℕ → ℕ
+recordsNeed t = 7 * length (splitLines t)
 
--- `short`: whether a work buffer is too short; t: the text; result: what it becomes; room: the length of the result buffer
-unfoldable pub answerOf : Limits → Bool → List ℕ → List ℕ → ℕ → Answer
+-- the result is n bytes long, and the result buffer `room`; the records take `need` bytes, and their buffer has `have`
+abbrev pub roomed : ℕ → ℕ → ℕ → ℕ → Answer
+roomed n room need have = cond (ltb room n) (ShortResult n) (cond (ltb have need) (ShortRecords need) (Done n))
+
+-- `short`: whether a work buffer is too short; t: the text; result: what it becomes; room, have: the lengths of the result buffer and of that for records
+unfoldable pub answerOf : Limits → Bool → List ℕ → List ℕ → ℕ → ℕ → Answer
 unfolding checked
-answerOf L short t result room = checked L short t (roomed (length result) room)
+answerOf L short t result room have = checked L short t (roomed (length result) room (recordsNeed t) have)
 
 -- by its mode: what follows where there is such a one
 abbrev pub inMode : ℕ → Answer → Answer
 inMode mode follows = cond (ltb mode modes) follows BadMode
 
 -- of the entry for all passes
-unfoldable pub wholeAnswer : Limits → ℕ → Bool → List ℕ → List ℕ → ℕ → Answer
+unfoldable pub wholeAnswer : Limits → ℕ → Bool → List ℕ → List ℕ → ℕ → ℕ → Answer
 unfolding answerOf
-wholeAnswer L mode short t result room = inMode mode (answerOf L short t result room)
+wholeAnswer L mode short t result room have = inMode mode (answerOf L short t result room have)
 
 -- and of the one for one pass
-unfoldable pub passAnswer : Limits → ℕ → ℕ → Bool → List ℕ → List ℕ → ℕ → Answer
+unfoldable pub passAnswer : Limits → ℕ → ℕ → Bool → List ℕ → List ℕ → ℕ → ℕ → Answer
 unfolding wholeAnswer
-passAnswer L k mode short t result room = cond (within 1 6 k) (wholeAnswer L mode short t result room) BadPass
+passAnswer L k mode short t result room have = cond (within 1 6 k) (wholeAnswer L mode short t result room have) BadPass
 
 -- ---- memory
 
@@ -101,7 +105,7 @@ unfoldable pub workAfter : Answer → ℕ → List ℕ → List ℕ
 unfolding passesRan blank
 workAfter r n d = cond (passesRan r) (blank n ++ drop n d) d
 
--- the result buffer d: the result at its front where it was written, and the rest is as it was
+-- the result buffer d: the result at its front where it was written, and the rest is as it was; the records in their buffer likewise
 unfoldable pub outAfter : Answer → List ℕ → List ℕ → List ℕ
 unfolding isDone
 outAfter r result d = cond (isDone r) (result ++ drop (length result) d) d

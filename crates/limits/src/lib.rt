@@ -61,6 +61,7 @@ pub enum Answer {
     Overlong(usize),
     Outside(usize),
     BadMode,
+    ShortRecords(usize),
 }
 
 // The number of an answer: 0, or that of the check that refused.
@@ -80,6 +81,7 @@ pub fn number_of(r: Answer) -> u8
         Answer::Overlong(i) => 10,
         Answer::Outside(i) => 11,
         Answer::BadMode => 12,
+        Answer::ShortRecords(n) => 8,
     }
 }
 
@@ -100,6 +102,7 @@ pub fn length_of(r: Answer) -> usize
         Answer::Overlong(i) => 0,
         Answer::Outside(i) => 0,
         Answer::BadMode => 0,
+        Answer::ShortRecords(n) => 0,
     }
 }
 
@@ -120,6 +123,7 @@ pub fn place_of(r: Answer) -> usize
         Answer::Overlong(i) => i,
         Answer::Outside(i) => i,
         Answer::BadMode => 0,
+        Answer::ShortRecords(n) => n,
     }
 }
 
@@ -198,14 +202,17 @@ pub fn refused_task(m: Task, text: &[u8], short: bool) -> Answer
     refused(m.limits, text, short)
 }
 
-// Joins the lines of `lf` into the result buffer, where it is long enough.
-pub fn finish(lf: &[u8], ended: bool, out: &mut [u8]) -> Answer
-    ensures answer { λ r. ⌜ r ≡ roomed (length (joined ended (linesOf (now (lf .entry))))) (length (now (out .entry))) ⌝ }
+// Joins the lines of `lf` into the result buffer, where it is long enough, and the `have` bytes lent for records are the `need` bytes that they take.
+pub fn finish(lf: &[u8], ended: bool, need: usize, have: usize, out: &mut [u8]) -> Answer
+    ensures answer { λ r. ⌜ r ≡ roomed (length (joined ended (linesOf (now (lf .entry))))) (length (now (out .entry))) need have ⌝ }
     ensures memory { λ r. ⌜ now (out .exit) ≡ outAfter r (joined ended (linesOf (now (lf .entry)))) (now (out .entry)) ⌝ }
 {
     let n = lines::joined_len(lf, ended);
     if out.len() < n {
         return Answer::ShortResult(n);
+    }
+    if have < need {
+        return Answer::ShortRecords(need);
     }
     let m = lines::join_lines(lf, ended, out);
     Answer::Done(m)

@@ -18,3 +18,4 @@ pub mod NextLaws
 pub mod Told
 pub mod BackLaws
 pub mod NoteFills
+pub mod Moves

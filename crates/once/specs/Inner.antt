@@ -1,2 +1,3 @@
 pub mod Tables
 pub mod Noted
+pub mod Moves

@@ -19,6 +19,9 @@ ghost use Rattle.words.specs.Hits.{regHit, replaceReg};
 ghost use Rattle.reading.specs.Reading.{readingOf, pureIn};
 ghost use Rattle.once.specs.Inner.Tables.{readBelow, anyCall, Zeroed, hasHit, storeDrops, lineDrops, storeForwards, lineForwards, onceMarks, actBy, actsBy, isSet, firstDrops, firstTakes, markBy, firstMark, marksOf, areaAt};
 ghost use Rattle.once.specs.Inner.Noted.{noteStored, noteDead, CalmIn, Calm, LineAt, RowAt, DropIs, DropBy, sentTo, SendIs, SendBy, OneIs, OneBy, OneOf, firstLine, NotesOf, EndsOf};
+ghost use Rattle.origins.specs.Inner.Codes.{movesOf};
+ghost use Rattle.decls.specs.Decls.{pruneDeclsActs};
+ghost use Rattle.once.specs.Inner.Moves.{markMove, moveMarks};
 ghost use Rattle.place.specs.Inner.Fill.{Filled, flagsOf};
 ghost use Rattle.place.specs.Loops.{insideLoop};
 ghost use Rattle.place.specs.Inner.Loops.{someLoop};
@@ -844,10 +847,40 @@ pub fn decide(
     )
 }
 
+// The move of a line with the mark m, where `next` is that of the next.
+fn move_at(m: u8, next: u8) -> usize
+    ensures { λ r. ⌜ r ≡ markMove m next ⌝ }
+{
+    if m == MARK_GOES {
+        return origins::FAR;
+    }
+    if m == MARK_SENDS {
+        if next == MARK_SENDS {
+            return 0;
+        }
+        return 1;
+    }
+    0
+}
+
+// Writes the moves of lines by their marks, as optimize_once leaves them, and returns how many there are.
+pub fn moves_of(marks: &[u8], moves: &mut [usize]) -> usize
+    requires { ⌜ length (now marks) ≤ length (now moves) ⌝ }
+    ensures { λ r. ⌜ Wrote (now (moves .entry)) 0 (moveMarks (now (marks .entry))) (now (moves .exit)) r ⌝ }
+{
+    let mut i = 0;
+    while i < marks.len() {
+        let next = lines::byte_at(marks, i + 1);
+        moves[i] = move_at(marks[i], next);
+        i += 1;
+    }
+    i
+}
+
 // Writes the lines of a text without dead stores and scratch loads, with each value that is read once, on the next line, in that line, and
-// without the declared registers that are then unused. `mid` takes what the lines are before their declarations are pruned. `own` has the owners
-// of places in the tables over registers: `near`, `far` and `stores`, of one length, and `seen`. These, `notes` and `ends`, of one entry a line as
-// far as they reach, are zeros afterwards.
+// without the declared registers that are then unused. `mid` takes what the lines are before their declarations are pruned, `marks` what becomes
+// of the lines of the text (moves_of), and `moves` the moves of those of `mid`. `own` has the owners of places in the tables over registers:
+// `near`, `far` and `stores`, of one length, and `seen`. These, `notes` and `ends`, of one entry a line as far as they reach, are zeros afterwards.
 pub fn optimize_once(
     mode: reading::Mode,
     text: &[u8],
@@ -865,6 +898,7 @@ pub fn optimize_once(
     ends: &mut [usize],
     seen: &mut [usize],
     out: &mut [u8],
+    moves: &mut [usize],
 ) -> usize
     requires { ⌜ (length (linesOf (now text)) ≤ length (now loops))
         × ((length (linesOf (now text)) ≤ length (now marks))
@@ -874,7 +908,8 @@ pub fn optimize_once(
         × ((length (now text) ≤ length (now scratch))
         × ((length (unlines (apply (onceActs (readingOf (mode .0)) (linesOf (now text))) (linesOf (now text)))) ≤ length (now mid))
         × ((length (unlines (optimizeOnce (readingOf (mode .0)) (linesOf (now text)))) ≤ length (now out))
-        × ((length (now far) ≡ length (now near)) × (length (now far) ≡ length (now stores)))))))))) ⌝ }
+        × (((length (now far) ≡ length (now near)) × (length (now far) ≡ length (now stores)))
+        × (length (linesOf (now text)) ≤ length (now moves)))))))))) ⌝ }
     ensures answer { λ r. ⌜ Wrote (now (out .entry)) 0 (unlines (optimizeOnce (readingOf (mode .0)) (linesOf (now (text .entry))))) (now (out .exit)) r ⌝ }
     ensures memory { λ _. ⌜ (Wrote (now (scratch .entry)) 0 (replicate (length (now (text .entry))) 0) (now (scratch .exit)) (length (now (text .entry))))
         × ((Wrote (now (mid .entry)) 0 (unlines (apply (onceActs (readingOf (mode .0)) (linesOf (now (text .entry)))) (linesOf (now (text .entry))))) (now (mid .exit)) (length (unlines (apply (onceActs (readingOf (mode .0)) (linesOf (now (text .entry)))) (linesOf (now (text .entry)))))))
@@ -887,6 +922,7 @@ pub fn optimize_once(
         × ((now (stores .exit) ≡ replicate (length (now (stores .entry))) 0)
         × ((now (notes .exit) ≡ replicate (length (now (notes .entry))) 0)
         × ((now (ends .exit) ≡ replicate (length (now (ends .entry))) 0) × (now (seen .exit) ≡ replicate (length (now (seen .entry))) 0))))) ⌝ }
+    ensures moves { λ _. ⌜ Wrote (now (moves .entry)) 0 (movesOf (pruneDeclsActs (apply (onceActs (readingOf (mode .0)) (linesOf (now (text .entry)))) (linesOf (now (text .entry)))))) (now (moves .exit)) (length (apply (onceActs (readingOf (mode .0)) (linesOf (now (text .entry)))) (linesOf (now (text .entry))))) ⌝ }
 {
     let n = decide(
         mode,
@@ -905,5 +941,5 @@ pub fn optimize_once(
     );
     let m = put_acts(text, &marks[0..n], ends, mid);
     slots::wipe(ends);
-    decls::prune_decls(&mid[0..m], own, seen, out)
+    decls::prune_decls(&mid[0..m], own, seen, out, moves)
 }

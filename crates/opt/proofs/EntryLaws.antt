@@ -11,17 +11,30 @@ use lib.Seq.{length-take-le, drop-length}
 use Rattle.lines.specs.Lf.{endsIn}
 use Rattle.lines.specs.Steps.{splitLines, joined}
 use Rattle.lines.proofs.Tests.{no}
+use Rattle.origins.specs.declared.Form.the-variants as form
+use Rattle.origins.specs.Form.{formShape, fileOf}
+use Rattle.origins.specs.Inner.Fates.{Fate, follow, staying, wentsOf}
+use Rattle.origins.proofs.FateLaws.{follow-stay}
 use Rattle.reading.specs.Reading.{Reading, readingOf}
+use Rattle.reading.proofs.ByLine.{ByLine}
+use Rattle.globals.specs.Globals.{removeGlobals}
+use Rattle.temps.specs.Temps.{pruneDeadTemps}
+use Rattle.once.specs.Once.{optimizeOnce}
+use Rattle.phis.specs.Phis.{pruneDeadPhis}
+use Rattle.calls.specs.LeavesOf.{leavesOf}
+use Rattle.calls.specs.Calls.{rebuildCalls}
+use Rattle.decls.specs.Decls.{pruneDecls}
 use Rattle.limits.specs.declared.Limits.{Limits}
 use Rattle.limits.specs.declared.Task.{Task}
 use Rattle.limits.specs.declared.Answer.{Answer}
 use Rattle.limits.specs.Answer.{passesRan}
 use Rattle.limits.proofs.AnswerLaws.{work-kept, work-wiped, roomed-runs}
-use Rattle.steps.specs.Step.{stepOf}
-use Rattle.passes.specs.Passes.{resultOf}
-use Rattle.passes.specs.Inner.Passes.{stepsOf}
+use Rattle.steps.specs.Step.{stepOf, stepFates}
+use Rattle.steps.proofs.Goings.{step-goes}
+use Rattle.passes.specs.Passes.{resultOf, originsOf}
+use Rattle.passes.specs.Inner.Passes.{stepsOf, stepsFates}
 use Rattle.passes.specs.Inner.Buffers.{Unused}
-use Rattle.opt.specs.Whole.{whole}
+use Rattle.opt.specs.Whole.{whole, wholeFates}
 use Rattle.limits.specs.Entry.{byteSize, blockSize, isShort, roomed, wholeAnswer, outAfter, workAfter, blank}
 use Rattle.opt.specs.Room.{After}
 use Rattle.opt.specs.Inner.Room.{Long, Wiped, Tables}
@@ -81,9 +94,9 @@ all-kept L r a b c d e u h = record {
   u-after = work-kept r (blockSize L) u h;
 }
 
-pub all-wiped : {L : Limits} {r : Answer} (n room : ℕ) {a b c d e u a′ b′ c′ d′ e′ u′ : List ℕ} → r ≡ roomed n room → Wiped L a b c d e u a′ b′ c′ d′ e′ u′ → After L r a b c d e u a′ b′ c′ d′ e′ u′
-all-wiped {L} {r} n room {a} {b} {c} {d} {e} {u} q w =
-    let h = ap passesRan q ∙ roomed-runs n room in
+pub all-wiped : {L : Limits} {r : Answer} (n room need have : ℕ) {a b c d e u a′ b′ c′ d′ e′ u′ : List ℕ} → r ≡ roomed n room need have → Wiped L a b c d e u a′ b′ c′ d′ e′ u′ → After L r a b c d e u a′ b′ c′ d′ e′ u′
+all-wiped {L} {r} n room need have {a} {b} {c} {d} {e} {u} q w =
+    let h = ap passesRan q ∙ roomed-runs n room need have in
     record {
       a-after = work-wiped r (byteSize L) a h (w .a-wiped);
       b-after = work-wiped r (byteSize L) b h (w .b-wiped);
@@ -98,8 +111,8 @@ module _ (y : Answer) (d : List ℕ) {d′ : List ℕ} where
   table-wiped : passesRan y ≡ true → d′ ≡ blank (length d) → d′ ≡ workAfter y (length d) d
   table-wiped h e = work-wiped y (length d) d h (e ∙ sym (append-nil (blank (length d))) ∙ ap (λ (xs : List ℕ). blank (length d) ++ xs) (sym (drop-length d)))
 
-pub tables-kept : (y : Answer) (f g h v w x p q r t o : List ℕ) → passesRan y ≡ false → Tables y f g h v w x p q r t o f g h v w x p q r t o
-tables-kept y f g h v w x p q r t o k = record {
+pub tables-kept : (y : Answer) (f g h v w x p q r t o z : List ℕ) → passesRan y ≡ false → Tables y f g h v w x p q r t o z f g h v w x p q r t o z
+tables-kept y f g h v w x p q r t o z k = record {
   f-after = work-kept y (length f) f k;
   g-after = work-kept y (length g) g k;
   h-after = work-kept y (length h) h k;
@@ -111,23 +124,26 @@ tables-kept y f g h v w x p q r t o k = record {
   r-after = work-kept y (length r) r k;
   t-after = work-kept y (length t) t k;
   o-after = work-kept y (length o) o k;
+  z-after = work-kept y (length z) z k;
 }
 
-pub tables-wiped : {y : Answer} (n room : ℕ) {f g h v w x p q r t o f′ g′ h′ v′ w′ x′ p′ q′ r′ t′ o′ : List ℕ} → y ≡ roomed n room → Unused f g h v w x p q r t o f′ g′ h′ v′ w′ x′ p′ q′ r′ t′ o′ → Tables y f g h v w x p q r t o f′ g′ h′ v′ w′ x′ p′ q′ r′ t′ o′
-tables-wiped {y} n room {f} {g} {h} {v} {w} {x} {p} {q} {r} {t} {o} e z =
-    let k = ap passesRan e ∙ roomed-runs n room in
+pub tables-wiped : {y : Answer} (n room need have : ℕ) {f g h v w x p q r t o z f′ g′ h′ v′ w′ x′ p′ q′ r′ t′ o′ z′ : List ℕ} → y ≡ roomed n room need have →
+    Unused f g h v w x p q r t o z f′ g′ h′ v′ w′ x′ p′ q′ r′ t′ o′ z′ → Tables y f g h v w x p q r t o z f′ g′ h′ v′ w′ x′ p′ q′ r′ t′ o′ z′
+tables-wiped {y} n room need have {f} {g} {h} {v} {w} {x} {p} {q} {r} {t} {o} {z} e a =
+    let k = ap passesRan e ∙ roomed-runs n room need have in
     record {
-      f-after = table-wiped y f k (z .f-unused);
-      g-after = table-wiped y g k (z .g-unused);
-      h-after = table-wiped y h k (z .h-unused);
-      v-after = table-wiped y v k (z .v-unused);
-      w-after = table-wiped y w k (z .w-unused);
-      x-after = table-wiped y x k (z .x-unused);
-      p-after = table-wiped y p k (z .p-unused);
-      q-after = table-wiped y q k (z .q-unused);
-      r-after = table-wiped y r k (z .r-unused);
-      t-after = table-wiped y t k (z .t-unused);
-      o-after = table-wiped y o k (z .o-unused);
+      f-after = table-wiped y f k (a .f-unused);
+      g-after = table-wiped y g k (a .g-unused);
+      h-after = table-wiped y h k (a .h-unused);
+      v-after = table-wiped y v k (a .v-unused);
+      w-after = table-wiped y w k (a .w-unused);
+      x-after = table-wiped y x k (a .x-unused);
+      p-after = table-wiped y p k (a .p-unused);
+      q-after = table-wiped y q k (a .q-unused);
+      r-after = table-wiped y r k (a .r-unused);
+      t-after = table-wiped y t k (a .t-unused);
+      o-after = table-wiped y o k (a .o-unused);
+      z-after = table-wiped y z k (a .z-unused);
     }
 
 -- ---- which passes an entry runs
@@ -150,14 +166,51 @@ result-one R k t =
     let q : k + 1 - k ≡ 1 = omega arith in
     ap (joined (endsIn 10 t)) (sym (ap (λ (n : ℕ). stepsOf R k n (splitLines t)) q ∙ steps-one R k (splitLines t)))
 
+-- ---- where their lines go
+
+stay-after : {R : Reading} → ByLine R → (k : ℕ) (ls : List (List ℕ)) → follow (stepFates R k ls) (staying (length (stepOf R k ls)) 0) ≡ stepFates R k ls
+stay-after {R} c k ls = follow-stay (length (stepOf R k ls)) (stepFates R k ls) (step-goes c ls k .below)
+
+fates-whole : {R : Reading} → ByLine R → (ls : List (List ℕ)) → wholeFates R ls ≡ stepsFates R 0 7 ls
+unfolding stepsFates stepOf wholeFates
+fates-whole {R} c ls =
+    let a = removeGlobals ls in
+    let b = pruneDeadTemps R a in
+    let d = optimizeOnce R b in
+    let e = pruneDeadPhis R d in
+    let f = rebuildCalls (leavesOf R) e in
+    let g = pruneDecls f in
+    ap (λ (fs : List Fate). follow (stepFates R 0 ls) (follow (stepFates R 1 a) (follow (stepFates R 2 b) (follow (stepFates R 3 d) (follow (stepFates R 4 e) (follow (stepFates R 5 f) fs))))))
+    (sym (stay-after c 6 g))
+
+pub origins-whole : {R : Reading} → ByLine R → (t : List ℕ) → originsOf (whole R) (wholeFates R) t ≡ originsOf (stepsOf R 0 7) (stepsFates R 0 7) t
+unfolding originsOf
+origins-whole {R} c t =
+    let ls : List (List ℕ) = splitLines t in
+    ap (λ (out : List (List ℕ)). fileOf (formShape form.Ol) (wentsOf out ls (wholeFates R ls))) (sym (steps-whole R ls))
+    ∙ ap (λ (fs : List Fate). fileOf (formShape form.Ol) (wentsOf (stepsOf R 0 7 ls) ls fs)) (fates-whole c ls)
+
+fates-one : {R : Reading} → ByLine R → (k : ℕ) (ls : List (List ℕ)) → stepsFates R k 1 ls ≡ stepFates R k ls
+unfolding stepsFates
+fates-one c k ls = stay-after c k ls
+
+pub origins-one : {R : Reading} → ByLine R → (k : ℕ) (t : List ℕ) → originsOf (stepOf R k) (stepFates R k) t ≡ originsOf (stepsOf R k (k + 1 - k)) (stepsFates R k (k + 1 - k)) t
+unfolding originsOf
+origins-one {R} c k t =
+    let ls : List (List ℕ) = splitLines t in
+    let q : k + 1 - k ≡ 1 = omega arith in
+    ap (λ (out : List (List ℕ)). fileOf (formShape form.Ol) (wentsOf out ls (stepFates R k ls))) (sym (ap (λ (n : ℕ). stepsOf R k n ls) q ∙ steps-one R k ls))
+    ∙ ap (λ (fs : List Fate). fileOf (formShape form.Ol) (wentsOf (stepsOf R k (k + 1 - k) ls) ls fs)) (sym (ap (λ (n : ℕ). stepsFates R k n ls) q ∙ fates-one c k ls))
+
 -- ---- the task of an entry
 
--- what `tidy` promises: r the answer, t the text, o the result buffer, a to u the work buffers
-abbrev Tidied : Task → Answer → (t o a b c d e u o′ a′ b′ c′ d′ e′ u′ : List ℕ) → Type 0
-Tidied m r t o a b c d e u o′ a′ b′ c′ d′ e′ u′ =
-    (r ≡ wholeAnswer (m .limits) (m .mode .0) (isShort (m .limits) (length a) (length b) (length c) (length d) (length e) (length u)) t (resultOf (stepsOf (readingOf (m .mode .0)) (m .from) (m .to - m .from)) t) (length o))
-    × ((o′ ≡ outAfter r (resultOf (stepsOf (readingOf (m .mode .0)) (m .from) (m .to - m .from)) t) o) × After (m .limits) r a b c d e u a′ b′ c′ d′ e′ u′)
+-- what `tidy` promises: r the answer, t the text, o the result buffer, z the one for records, a to u the work buffers
+abbrev Tidied : Task → Answer → (t o z a b c d e u o′ z′ a′ b′ c′ d′ e′ u′ : List ℕ) → Type 0
+Tidied m r t o z a b c d e u o′ z′ a′ b′ c′ d′ e′ u′ =
+    (r ≡ wholeAnswer (m .limits) (m .mode .0) (isShort (m .limits) (length a) (length b) (length c) (length d) (length e) (length u)) t (resultOf (stepsOf (readingOf (m .mode .0)) (m .from) (m .to - m .from)) t) (length o) (length z))
+    × (((o′ ≡ outAfter r (resultOf (stepsOf (readingOf (m .mode .0)) (m .from) (m .to - m .from)) t) o) × After (m .limits) r a b c d e u a′ b′ c′ d′ e′ u′)
+    × (z′ ≡ outAfter r (originsOf (stepsOf (readingOf (m .mode .0)) (m .from) (m .to - m .from)) (stepsFates (readingOf (m .mode .0)) (m .from) (m .to - m .from)) t) z))
 
 -- it is promised of the task that the entry made
-pub tidied-as : {m n : Task} {r : Answer} (t o a b c d e u : List ℕ) {o′ a′ b′ c′ d′ e′ u′ : List ℕ} → m ≡ n → Tidied m r t o a b c d e u o′ a′ b′ c′ d′ e′ u′ → Tidied n r t o a b c d e u o′ a′ b′ c′ d′ e′ u′
-tidied-as {r = r} t o a b c d e u {o′} {a′} {b′} {c′} {d′} {e′} {u′} q h = subst (λ (m : Task). Tidied m r t o a b c d e u o′ a′ b′ c′ d′ e′ u′) q h
+pub tidied-as : {m n : Task} {r : Answer} (t o z a b c d e u : List ℕ) {o′ z′ a′ b′ c′ d′ e′ u′ : List ℕ} → m ≡ n → Tidied m r t o z a b c d e u o′ z′ a′ b′ c′ d′ e′ u′ → Tidied n r t o z a b c d e u o′ z′ a′ b′ c′ d′ e′ u′
+tidied-as {r = r} t o z a b c d e u {o′} {z′} {a′} {b′} {c′} {d′} {e′} {u′} q h = subst (λ (m : Task). Tidied m r t o z a b c d e u o′ z′ a′ b′ c′ d′ e′ u′) q h

@@ -30,13 +30,13 @@ use Rattle.bind.specs.Bind.{bindDeclarators}
 use Rattle.reading.proofs.ByLine.{ByLine}
 use Rattle.limits.specs.declared.Limits.{Limits}
 use Rattle.limits.specs.declared.Answer.{Answer}
-use Rattle.limits.specs.declared.Answer.the-variants.{Done, BadPass, BadMode, TooLong, ShortWork, TooManyLines, ShortResult}
+use Rattle.limits.specs.declared.Answer.the-variants.{Done, BadPass, BadMode, TooLong, ShortWork, TooManyLines, ShortResult, ShortRecords}
 use Rattle.limits.specs.Answer.{numberOf, isDone}
 use Rattle.steps.specs.Step.{stepOf}
 use Rattle.passes.specs.Passes.{resultOf}
 use Rattle.passes.specs.Inner.Passes.{stepsOf}
 use Rattle.opt.specs.Whole.{whole}
-use Rattle.limits.specs.Entry.{byUtf8, byCrowd, checkedLines, checked, roomed, answerOf, modes, wholeAnswer, passAnswer, outAfter}
+use Rattle.limits.specs.Entry.{byUtf8, byCrowd, checkedLines, checked, recordsNeed, roomed, answerOf, modes, wholeAnswer, passAnswer, outAfter}
 use Rattle.steps.proofs.Tame.{Tame, tame-step}
 use Rattle.passes.proofs.Between.{tame-steps}
 use Rattle.limits.proofs.AnswerLaws.{Accepted, mode-bad, mode-good, answer-accepted, pass-bad, pass-good, text-long, lines-many}
@@ -50,15 +50,15 @@ pub result-composed : (R : Reading) (t : List ℕ) →
 unfolding resultOf whole
 result-composed R t = refl
 
--- where there is such a mode, no check refuses a text and the result buffer d is long enough, the answer is the result's length, and the result stands at the front of d
-pub optimize-whole : (L : Limits) (mode : ℕ) (short : Bool) (t d : List ℕ) → mode < modes → Accepted L short t → length (resultOf (whole (readingOf mode)) t) ≤ length d →
-    (wholeAnswer L mode short t (resultOf (whole (readingOf mode)) t) (length d) ≡ Done (length (resultOf (whole (readingOf mode)) t)))
+-- where there is such a mode, no check refuses a text, and the result buffer d and the one for records are long enough, the answer is the result's length, and the result stands at the front of d
+pub optimize-whole : (L : Limits) (mode : ℕ) (short : Bool) (t d : List ℕ) → mode < modes → Accepted L short t → length (resultOf (whole (readingOf mode)) t) ≤ length d → (have : ℕ) → recordsNeed t ≤ have →
+    (wholeAnswer L mode short t (resultOf (whole (readingOf mode)) t) (length d) have ≡ Done (length (resultOf (whole (readingOf mode)) t)))
     × (outAfter (Done (length (resultOf (whole (readingOf mode)) t))) (resultOf (whole (readingOf mode)) t) d ≡ resultOf (whole (readingOf mode)) t ++ drop (length (resultOf (whole (readingOf mode)) t)) d)
 unfolding outAfter isDone numberOf
-optimize-whole L mode short t d m p h =
+optimize-whole L mode short t d m p h have k =
     let n : ℕ = length (resultOf (whole (readingOf mode)) t) in
-    let q : Done n ≡ roomed n (length d) = rw (le-ltb (length d) n h) in
-    (sym (answer-accepted L mode short t (resultOf (whole (readingOf mode)) t) (length d) (λ y. sym (mode-good mode m refl)) p q), refl)
+    let q : Done n ≡ roomed n (length d) (recordsNeed t) have = rw (le-ltb (length d) n h, le-ltb have (recordsNeed t) k) in
+    (sym (answer-accepted L mode short t (resultOf (whole (readingOf mode)) t) (length d) have (λ y. sym (mode-good mode m refl)) p q), refl)
 
 -- ---- no result is longer than twice its text
 
@@ -125,26 +125,26 @@ pass-twice {R} c k t = result-twice (stepOf R k) t (tame-step c k)
 
 -- ---- the edges: one more is refused, the last that fits goes on to the next check
 
-module _ (L : Limits) (short : Bool) (t xs : List ℕ) (room : ℕ) where
-  pub bytes-over : length t ≡ suc (L .bytes) → answerOf L short t xs room ≡ TooLong (L .bytes)
+module _ (L : Limits) (short : Bool) (t xs : List ℕ) (room have : ℕ) where
+  pub bytes-over : length t ≡ suc (L .bytes) → answerOf L short t xs room have ≡ TooLong (L .bytes)
   unfolding answerOf
-  bytes-over e = sym (text-long L t (roomed (length xs) room) short (omega arith))
+  bytes-over e = sym (text-long L t (roomed (length xs) room (recordsNeed t) have) short (omega arith))
 
-  pub bytes-edge : length t ≡ L .bytes → answerOf L short t xs room ≡ cond short ShortWork (byUtf8 (utf8Of t) t (checkedLines L t (roomed (length xs) room)))
+  pub bytes-edge : length t ≡ L .bytes → answerOf L short t xs room have ≡ cond short ShortWork (byUtf8 (utf8Of t) t (checkedLines L t (roomed (length xs) room (recordsNeed t) have)))
   unfolding answerOf checked
   bytes-edge e = rw (le-ltb (L .bytes) (length t) (omega arith))
 
 -- the mode is looked at first of all by the entry for all passes, and just after the pass by the one for a pass
-module _ (L : Limits) (mode : ℕ) (short : Bool) (t xs : List ℕ) (room : ℕ) (h : modes ≤ mode) where
-  pub mode-first : wholeAnswer L mode short t xs room ≡ BadMode
+module _ (L : Limits) (mode : ℕ) (short : Bool) (t xs : List ℕ) (room have : ℕ) (h : modes ≤ mode) where
+  pub mode-first : wholeAnswer L mode short t xs room have ≡ BadMode
   unfolding wholeAnswer
-  mode-first = sym (mode-bad mode (answerOf L short t xs room) h)
+  mode-first = sym (mode-bad mode (answerOf L short t xs room have) h)
 
-  pub mode-second : (k : ℕ) → within 1 6 k ≡ true → passAnswer L k mode short t xs room ≡ BadMode
-  mode-second k p = sym (pass-good L k mode short t xs room p) ∙ mode-first
+  pub mode-second : (k : ℕ) → within 1 6 k ≡ true → passAnswer L k mode short t xs room have ≡ BadMode
+  mode-second k p = sym (pass-good L k mode short t xs room have p) ∙ mode-first
 
-pub pass-first : (L : Limits) (k mode : ℕ) (short : Bool) (t xs : List ℕ) (room : ℕ) → within 1 6 k ≡ false → passAnswer L k mode short t xs room ≡ BadPass
-pass-first L k mode short t xs room h = sym (pass-bad L k mode short t xs room h)
+pub pass-first : (L : Limits) (k mode : ℕ) (short : Bool) (t xs : List ℕ) (room have : ℕ) → within 1 6 k ≡ false → passAnswer L k mode short t xs room have ≡ BadPass
+pass-first L k mode short t xs room have h = sym (pass-bad L k mode short t xs room have h)
 
 module _ (L : Limits) (t : List ℕ) (x : Answer) where
   pub lines-over : length (splitLines t) ≡ suc (L .lines) → checkedLines L t x ≡ TooManyLines (L .lines)
@@ -163,9 +163,12 @@ pub brackets-over : overFrom 64 91 0 ([] ∷ replicate 65 91 ∷ []) ≡ crowd-i
 unfolding overFrom countOf
 brackets-over = refl
 
--- a result buffer of exactly the length passes
-pub room-edge : (n : ℕ) → roomed n n ≡ Done n
-room-edge n = rw (le-ltb n n (omega arith))
+-- buffers of exactly the lengths pass; of both too short, the result's is named
+pub room-edge : (n need : ℕ) → roomed n n need need ≡ Done n
+room-edge n need = rw (le-ltb n n (omega arith), le-ltb need need (omega arith))
 
-pub room-over : (n : ℕ) → roomed (suc n) n ≡ ShortResult (suc n)
-room-over n = rw (lt-ltb n (suc n) (omega arith))
+pub room-over : (n need have : ℕ) → roomed (suc n) n need have ≡ ShortResult (suc n)
+room-over n need have = rw (lt-ltb n (suc n) (omega arith))
+
+pub records-over : (n have : ℕ) → roomed n n (suc have) have ≡ ShortRecords (suc have)
+records-over n have = rw (le-ltb n n (omega arith), lt-ltb have (suc have) (omega arith))

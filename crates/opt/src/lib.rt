@@ -4,14 +4,14 @@ ghost use Prim.Native.Nat.{_≤_, _-_};
 ghost use lib.ListN.{length};
 ghost use Rattle.lines.specs.Lf.{within};
 ghost use Rattle.reading.specs.Reading.{readingOf};
-ghost use Rattle.limits.specs.Entry.{small, isShort, roomed, wholeAnswer, passAnswer, outAfter};
+ghost use Rattle.limits.specs.Entry.{small, isShort, recordsNeed, roomed, wholeAnswer, passAnswer, outAfter};
 ghost use Rattle.limits.specs.Inner.Sane.{Sane, Within};
-ghost use Rattle.steps.specs.Step.{stepOf};
-ghost use Rattle.passes.specs.Passes.{resultOf};
-ghost use Rattle.passes.specs.Inner.Passes.{stepsOf};
+ghost use Rattle.steps.specs.Step.{stepOf, stepFates};
+ghost use Rattle.passes.specs.Passes.{resultOf, originsOf};
+ghost use Rattle.passes.specs.Inner.Passes.{stepsOf, stepsFates};
 ghost use Rattle.passes.specs.Inner.Buffers.{Unused};
 ghost use Rattle.steps.specs.Inner.Bounds.{Tabled};
-ghost use Rattle.opt.specs.Whole.{whole};
+ghost use Rattle.opt.specs.Whole.{whole, wholeFates};
 ghost use Rattle.opt.specs.Room.{After};
 ghost use Rattle.opt.specs.Inner.Room.{taskOf, Long, Wiped, Tables};
 use limits::Task;
@@ -52,14 +52,17 @@ fn run(
     r: &mut [usize],
     t: &mut [usize],
     own: &mut [usize],
+    table: &mut [usize],
     out: &mut [u8],
+    orig: &mut [u8],
 ) -> limits::Answer
     requires { ⌜ Within (m .limits) (now text) × (Long (m .limits) (now a) (now b) (now c) (now d) (now e) (now u)
-        × Tabled (m .limits) (now f) (now g) (now v) (now w) (now x) (now p) (now q) (now r)) ⌝ }
-    ensures answer { λ r. ⌜ r ≡ roomed (length (resultOf (stepsOf (readingOf (m .mode .0)) (m .from) (m .to - m .from)) (now (text .entry)))) (length (now (out .entry))) ⌝ }
+        × (Tabled (m .limits) (now f) (now g) (now v) (now w) (now x) (now p) (now q) (now r) (now t) × (m .limits .lines ≤ length (now table)))) ⌝ }
+    ensures answer { λ r. ⌜ r ≡ roomed (length (resultOf (stepsOf (readingOf (m .mode .0)) (m .from) (m .to - m .from)) (now (text .entry)))) (length (now (out .entry))) (recordsNeed (now (text .entry))) (length (now (orig .entry))) ⌝ }
     ensures memory { λ r. ⌜ (now (out .exit) ≡ outAfter r (resultOf (stepsOf (readingOf (m .mode .0)) (m .from) (m .to - m .from)) (now (text .entry))) (now (out .entry)))
         × Wiped (m .limits) (now (a .entry)) (now (b .entry)) (now (c .entry)) (now (d .entry)) (now (e .entry)) (now (u .entry)) (now (a .exit)) (now (b .exit)) (now (c .exit)) (now (d .exit)) (now (e .exit)) (now (u .exit)) ⌝ }
-    ensures tables { λ _. ⌜ Unused (now (f .entry)) (now (g .entry)) (now (h .entry)) (now (v .entry)) (now (w .entry)) (now (x .entry)) (now (p .entry)) (now (q .entry)) (now (r .entry)) (now (t .entry)) (now (own .entry)) (now (f .exit)) (now (g .exit)) (now (h .exit)) (now (v .exit)) (now (w .exit)) (now (x .exit)) (now (p .exit)) (now (q .exit)) (now (r .exit)) (now (t .exit)) (now (own .exit)) ⌝ }
+    ensures records { λ r. ⌜ now (orig .exit) ≡ outAfter r (originsOf (stepsOf (readingOf (m .mode .0)) (m .from) (m .to - m .from)) (stepsFates (readingOf (m .mode .0)) (m .from) (m .to - m .from)) (now (text .entry))) (now (orig .entry)) ⌝ }
+    ensures tables { λ _. ⌜ Unused (now (f .entry)) (now (g .entry)) (now (h .entry)) (now (v .entry)) (now (w .entry)) (now (x .entry)) (now (p .entry)) (now (q .entry)) (now (r .entry)) (now (t .entry)) (now (own .entry)) (now (table .entry)) (now (f .exit)) (now (g .exit)) (now (h .exit)) (now (v .exit)) (now (w .exit)) (now (x .exit)) (now (p .exit)) (now (q .exit)) (now (r .exit)) (now (t .exit)) (now (own .exit)) (now (table .exit)) ⌝ }
 {
     let n = limits::byte_size(m.limits);
     let blocks = m.limits.bytes;
@@ -83,7 +86,9 @@ fn run(
         r,
         t,
         own,
+        table,
         out,
+        orig,
     )
 }
 
@@ -108,13 +113,16 @@ fn tidy(
     r: &mut [usize],
     t: &mut [usize],
     own: &mut [usize],
+    table: &mut [usize],
     out: &mut [u8],
+    orig: &mut [u8],
 ) -> limits::Answer
-    requires { ⌜ Sane (m .limits) × Tabled (m .limits) (now f) (now g) (now v) (now w) (now x) (now p) (now q) (now r) ⌝ }
-    ensures answer { λ r. ⌜ r ≡ wholeAnswer (m .limits) (m .mode .0) (isShort (m .limits) (length (now (a .entry))) (length (now (b .entry))) (length (now (c .entry))) (length (now (d .entry))) (length (now (e .entry))) (length (now (u .entry)))) (now (text .entry)) (resultOf (stepsOf (readingOf (m .mode .0)) (m .from) (m .to - m .from)) (now (text .entry))) (length (now (out .entry))) ⌝ }
+    requires { ⌜ Sane (m .limits) × (Tabled (m .limits) (now f) (now g) (now v) (now w) (now x) (now p) (now q) (now r) (now t) × (m .limits .lines ≤ length (now table))) ⌝ }
+    ensures answer { λ r. ⌜ r ≡ wholeAnswer (m .limits) (m .mode .0) (isShort (m .limits) (length (now (a .entry))) (length (now (b .entry))) (length (now (c .entry))) (length (now (d .entry))) (length (now (e .entry))) (length (now (u .entry)))) (now (text .entry)) (resultOf (stepsOf (readingOf (m .mode .0)) (m .from) (m .to - m .from)) (now (text .entry))) (length (now (out .entry))) (length (now (orig .entry))) ⌝ }
     ensures memory { λ r. ⌜ (now (out .exit) ≡ outAfter r (resultOf (stepsOf (readingOf (m .mode .0)) (m .from) (m .to - m .from)) (now (text .entry))) (now (out .entry)))
         × After (m .limits) r (now (a .entry)) (now (b .entry)) (now (c .entry)) (now (d .entry)) (now (e .entry)) (now (u .entry)) (now (a .exit)) (now (b .exit)) (now (c .exit)) (now (d .exit)) (now (e .exit)) (now (u .exit)) ⌝ }
-    ensures tables { λ y. ⌜ Tables y (now (f .entry)) (now (g .entry)) (now (h .entry)) (now (v .entry)) (now (w .entry)) (now (x .entry)) (now (p .entry)) (now (q .entry)) (now (r .entry)) (now (t .entry)) (now (own .entry)) (now (f .exit)) (now (g .exit)) (now (h .exit)) (now (v .exit)) (now (w .exit)) (now (x .exit)) (now (p .exit)) (now (q .exit)) (now (r .exit)) (now (t .exit)) (now (own .exit)) ⌝ }
+    ensures records { λ r. ⌜ now (orig .exit) ≡ outAfter r (originsOf (stepsOf (readingOf (m .mode .0)) (m .from) (m .to - m .from)) (stepsFates (readingOf (m .mode .0)) (m .from) (m .to - m .from)) (now (text .entry))) (now (orig .entry)) ⌝ }
+    ensures tables { λ y. ⌜ Tables y (now (f .entry)) (now (g .entry)) (now (h .entry)) (now (v .entry)) (now (w .entry)) (now (x .entry)) (now (p .entry)) (now (q .entry)) (now (r .entry)) (now (t .entry)) (now (own .entry)) (now (table .entry)) (now (f .exit)) (now (g .exit)) (now (h .exit)) (now (v .exit)) (now (w .exit)) (now (x .exit)) (now (p .exit)) (now (q .exit)) (now (r .exit)) (now (t .exit)) (now (own .exit)) (now (table .exit)) ⌝ }
 {
     let short = limits::too_short(
         m.limits,
@@ -149,7 +157,9 @@ fn tidy(
         r,
         t,
         own,
+        table,
         out,
+        orig,
     )
 }
 
@@ -179,10 +189,12 @@ fn tidy_small(
     e: &mut [u8],
     u: &mut [u32],
     out: &mut [u8],
+    orig: &mut [u8],
 ) -> limits::Answer
-    ensures answer { λ r. ⌜ r ≡ wholeAnswer small mode (isShort small (length (now (a .entry))) (length (now (b .entry))) (length (now (c .entry))) (length (now (d .entry))) (length (now (e .entry))) (length (now (u .entry)))) (now (text .entry)) (resultOf (stepsOf (readingOf mode) from (to - from)) (now (text .entry))) (length (now (out .entry))) ⌝ }
+    ensures answer { λ r. ⌜ r ≡ wholeAnswer small mode (isShort small (length (now (a .entry))) (length (now (b .entry))) (length (now (c .entry))) (length (now (d .entry))) (length (now (e .entry))) (length (now (u .entry)))) (now (text .entry)) (resultOf (stepsOf (readingOf mode) from (to - from)) (now (text .entry))) (length (now (out .entry))) (length (now (orig .entry))) ⌝ }
     ensures memory { λ r. ⌜ (now (out .exit) ≡ outAfter r (resultOf (stepsOf (readingOf mode) from (to - from)) (now (text .entry))) (now (out .entry)))
         × After small r (now (a .entry)) (now (b .entry)) (now (c .entry)) (now (d .entry)) (now (e .entry)) (now (u .entry)) (now (a .exit)) (now (b .exit)) (now (c .exit)) (now (d .exit)) (now (e .exit)) (now (u .exit)) ⌝ }
+    ensures records { λ r. ⌜ now (orig .exit) ≡ outAfter r (originsOf (stepsOf (readingOf mode) from (to - from)) (stepsFates (readingOf mode) from (to - from)) (now (text .entry))) (now (orig .entry)) ⌝ }
 {
     let mut f = [0u8; PLACES];
     let mut g = [0u8; PLACES];
@@ -195,6 +207,7 @@ fn tidy_small(
     let mut r = [0usize; PLACES];
     let mut t = [0usize; PLACES];
     let mut own = [0usize; OWNERS];
+    let mut table = [0usize; LINES];
     tidy(
         task(from, to, mode),
         text,
@@ -215,12 +228,14 @@ fn tidy_small(
         &mut r,
         &mut t,
         &mut own,
+        &mut table,
         out,
+        orig,
     )
 }
 
-// Removes the lines that declare globals from a text, runs the six passes over it, and writes the result to the front of `out`. Mode 0 reads values
-// as the original does, mode 1 is strict. Of each of the work buffers `a` to `e` 32,769 bytes are used, and of `u` 16,384 numbers: these are 0
+// Removes the lines that declare globals from a text, runs the six passes over it, and writes the result to the front of `out` and, to that of
+// `orig`, a record for each line of the text that says where it went. Mode 0 reads values as the original does, mode 1 is strict. Of each of the work buffers `a` to `e` 32,769 bytes are used, and of `u` 16,384 numbers: these are 0
 // afterwards where the passes ran.
 pub fn optimize(
     mode: usize,
@@ -232,12 +247,14 @@ pub fn optimize(
     e: &mut [u8],
     u: &mut [u32],
     out: &mut [u8],
+    orig: &mut [u8],
 ) -> limits::Answer
-    ensures answer { λ r. ⌜ r ≡ wholeAnswer small mode (isShort small (length (now (a .entry))) (length (now (b .entry))) (length (now (c .entry))) (length (now (d .entry))) (length (now (e .entry))) (length (now (u .entry)))) (now (text .entry)) (resultOf (whole (readingOf mode)) (now (text .entry))) (length (now (out .entry))) ⌝ }
+    ensures answer { λ r. ⌜ r ≡ wholeAnswer small mode (isShort small (length (now (a .entry))) (length (now (b .entry))) (length (now (c .entry))) (length (now (d .entry))) (length (now (e .entry))) (length (now (u .entry)))) (now (text .entry)) (resultOf (whole (readingOf mode)) (now (text .entry))) (length (now (out .entry))) (length (now (orig .entry))) ⌝ }
     ensures memory { λ r. ⌜ (now (out .exit) ≡ outAfter r (resultOf (whole (readingOf mode)) (now (text .entry))) (now (out .entry)))
         × After small r (now (a .entry)) (now (b .entry)) (now (c .entry)) (now (d .entry)) (now (e .entry)) (now (u .entry)) (now (a .exit)) (now (b .exit)) (now (c .exit)) (now (d .exit)) (now (e .exit)) (now (u .exit)) ⌝ }
+    ensures records { λ r. ⌜ now (orig .exit) ≡ outAfter r (originsOf (whole (readingOf mode)) (wholeFates (readingOf mode)) (now (text .entry))) (now (orig .entry)) ⌝ }
 {
-    tidy_small(0, 7, mode, text, a, b, c, d, e, u, out)
+    tidy_small(0, 7, mode, text, a, b, c, d, e, u, out, orig)
 }
 
 // Whether a number is that of a pass.
@@ -247,7 +264,7 @@ fn is_pass(pass: usize) -> bool
     (pass >= 1) & (pass <= 6)
 }
 
-// Runs one pass over a text, by its number from 1 to 6, with no removal, and writes the result to the front of `out`, in the same work buffers.
+// Runs one pass over a text, by its number from 1 to 6, with no removal, and writes the result and the records likewise, in the same work buffers.
 pub fn run_pass(
     pass: usize,
     mode: usize,
@@ -259,13 +276,38 @@ pub fn run_pass(
     e: &mut [u8],
     u: &mut [u32],
     out: &mut [u8],
+    orig: &mut [u8],
 ) -> limits::Answer
-    ensures answer { λ r. ⌜ r ≡ passAnswer small pass mode (isShort small (length (now (a .entry))) (length (now (b .entry))) (length (now (c .entry))) (length (now (d .entry))) (length (now (e .entry))) (length (now (u .entry)))) (now (text .entry)) (resultOf (stepOf (readingOf mode) pass) (now (text .entry))) (length (now (out .entry))) ⌝ }
+    ensures answer { λ r. ⌜ r ≡ passAnswer small pass mode (isShort small (length (now (a .entry))) (length (now (b .entry))) (length (now (c .entry))) (length (now (d .entry))) (length (now (e .entry))) (length (now (u .entry)))) (now (text .entry)) (resultOf (stepOf (readingOf mode) pass) (now (text .entry))) (length (now (out .entry))) (length (now (orig .entry))) ⌝ }
     ensures memory { λ r. ⌜ (now (out .exit) ≡ outAfter r (resultOf (stepOf (readingOf mode) pass) (now (text .entry))) (now (out .entry)))
         × After small r (now (a .entry)) (now (b .entry)) (now (c .entry)) (now (d .entry)) (now (e .entry)) (now (u .entry)) (now (a .exit)) (now (b .exit)) (now (c .exit)) (now (d .exit)) (now (e .exit)) (now (u .exit)) ⌝ }
+    ensures records { λ r. ⌜ now (orig .exit) ≡ outAfter r (originsOf (stepOf (readingOf mode) pass) (stepFates (readingOf mode) pass) (now (text .entry))) (now (orig .entry)) ⌝ }
 {
     if !is_pass(pass) {
         return limits::Answer::BadPass;
     }
-    tidy_small(pass, pass + 1, mode, text, a, b, c, d, e, u, out)
+    tidy_small(pass, pass + 1, mode, text, a, b, c, d, e, u, out, orig)
+}
+
+// Runs the first stages over a text, so many as `n` says: the removal of the lines that declare globals is the first of seven, and each pass one more. It writes the
+// result and the records likewise, in the same work buffers.
+pub fn run_stages(
+    n: usize,
+    mode: usize,
+    text: &[u8],
+    a: &mut [u8],
+    b: &mut [u8],
+    c: &mut [u8],
+    d: &mut [u8],
+    e: &mut [u8],
+    u: &mut [u32],
+    out: &mut [u8],
+    orig: &mut [u8],
+) -> limits::Answer
+    ensures answer { λ r. ⌜ r ≡ wholeAnswer small mode (isShort small (length (now (a .entry))) (length (now (b .entry))) (length (now (c .entry))) (length (now (d .entry))) (length (now (e .entry))) (length (now (u .entry)))) (now (text .entry)) (resultOf (stepsOf (readingOf mode) 0 n) (now (text .entry))) (length (now (out .entry))) (length (now (orig .entry))) ⌝ }
+    ensures memory { λ r. ⌜ (now (out .exit) ≡ outAfter r (resultOf (stepsOf (readingOf mode) 0 n) (now (text .entry))) (now (out .entry)))
+        × After small r (now (a .entry)) (now (b .entry)) (now (c .entry)) (now (d .entry)) (now (e .entry)) (now (u .entry)) (now (a .exit)) (now (b .exit)) (now (c .exit)) (now (d .exit)) (now (e .exit)) (now (u .exit)) ⌝ }
+    ensures records { λ r. ⌜ now (orig .exit) ≡ outAfter r (originsOf (stepsOf (readingOf mode) 0 n) (stepsFates (readingOf mode) 0 n) (now (text .entry))) (now (orig .entry)) ⌝ }
+{
+    tidy_small(0, n, mode, text, a, b, c, d, e, u, out, orig)
 }

@@ -36,6 +36,13 @@ fn block_room() -> [u32; 16392]
     [input::lent::BLOCK; 16392]
 }
 
+// A filled buffer for records, some longer than the most lines take.
+fn record_room() -> [u8; 7176]
+    ensures { λ r. ⌜ 7176 ≡ length r ⌝ }
+{
+    [input::lent::BYTE; 7176]
+}
+
 // How much of the work buffer `which` is lent, of `there`: one element less than is stated where the request says so.
 fn lent_of(there: usize, short: u8, which: u8, stated: usize) -> usize
     ensures { λ r. ⌜ r ≤ there ⌝ }
@@ -72,11 +79,24 @@ fn run(
     e: &mut [u8],
     u: &mut [u32],
     out: &mut [u8],
+    orig: &mut [u8],
 ) -> Answer {
     if pass == 0 {
-        return opt::optimize(mode as usize, text, a, b, c, d, e, u, out);
+        return opt::optimize(mode as usize, text, a, b, c, d, e, u, out, orig);
     }
-    opt::run_pass(pass as usize, mode as usize, text, a, b, c, d, e, u, out)
+    opt::run_pass(
+        pass as usize,
+        mode as usize,
+        text,
+        a,
+        b,
+        c,
+        d,
+        e,
+        u,
+        out,
+        orig,
+    )
 }
 
 // Lends as much of each buffer as the request says.
@@ -90,6 +110,7 @@ fn ask(
     e: &mut [u8],
     u: &mut [u32],
     out: &mut [u8],
+    orig: &mut [u8],
 ) -> Answer {
     let ka = lent_of(a.len(), q.short, 1, BYTES);
     let kb = lent_of(b.len(), q.short, 2, BYTES);
@@ -98,6 +119,7 @@ fn ask(
     let ke = lent_of(e.len(), q.short, 5, BYTES);
     let ku = lent_of(u.len(), q.short, 6, BLOCKS);
     let room = room_of(out.len(), q.room);
+    let records = room_of(orig.len(), q.records);
     run(
         q.pass,
         q.mode,
@@ -109,6 +131,7 @@ fn ask(
         &mut e[..ke],
         &mut u[..ku],
         &mut out[..room],
+        &mut orig[..records],
     )
 }
 
@@ -125,12 +148,13 @@ fn work_fixed(ran: bool, a: &[u8], b: &[u8], c: &[u8], d: &[u8], e: &[u8], u: &[
 // Whether the passes ran.
 fn has_run(got: Answer) -> bool {
     let number = limits::number_of(got);
-    (number == 0) | (number == 7)
+    (number == 0) | (number == 7) | (number == 8)
 }
 
 // Writes an answer, and returns whether it went out.
 fn tell(
     got: Answer,
+    records: usize,
     a: &[u8],
     b: &[u8],
     c: &[u8],
@@ -138,16 +162,20 @@ fn tell(
     e: &[u8],
     u: &[u32],
     out: &[u8],
+    orig: &[u8],
 ) -> bool {
     let n = limits::length_of(got);
     let memory = work_fixed(has_run(got), a, b, c, d, e, u) & input::lent::kept_from(out, n);
-    wire::write_answer(
+    if wire::write_answer(
         STDOUT_FILENO,
         limits::number_of(got),
         memory,
         limits::place_of(got),
         lines::cut(out, 0, n),
-    )
+    ) {
+        return wire::write_records(STDOUT_FILENO, lines::cut(orig, 0, records));
+    }
+    false
 }
 
 // Answers a request over buffers that are filled anew, and returns whether the answer went out.
@@ -159,6 +187,8 @@ fn answer(q: Request, text: &[u8]) -> bool {
     let mut e = byte_room();
     let mut u = block_room();
     let mut out = byte_room();
+    let mut orig = record_room();
+    let records = q.records;
     let got = ask(
         q,
         text,
@@ -169,8 +199,9 @@ fn answer(q: Request, text: &[u8]) -> bool {
         &mut e,
         &mut u,
         &mut out,
+        &mut orig,
     );
-    tell(got, &a, &b, &c, &d, &e, &u, &out)
+    tell(got, records, &a, &b, &c, &d, &e, &u, &out, &orig)
 }
 
 // Reads a request and answers it, and returns whether to go on.

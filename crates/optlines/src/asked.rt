@@ -6,20 +6,51 @@ pub enum Passes {
     One(usize),
 }
 
-// What is asked: passes, in the mode of a number.
+// What is asked: passes, in the mode of a number, and the place of the argument that names the file for the records; 0 where there is none.
 pub struct Task {
     pub passes: Passes,
     pub mode: usize,
+    pub records: usize,
 }
 
 // The modes.
-const PLAIN: usize = 0;
+pub const PLAIN: usize = 0;
 
-const STRICT: usize = 1;
+pub const STRICT: usize = 1;
 
-// The mode that is asked for, by whether it is to be strict.
-pub fn mode_of(strict: bool) -> usize {
-    if strict { STRICT } else { PLAIN }
+// What an argument is: an option that the program has, `--`, an option that it has not, or a file's name.
+pub enum Word {
+    Strict,
+    Pass,
+    Origins,
+    End,
+    Unknown,
+    Name,
+}
+
+// What an argument is.
+pub fn word_at(at: usize) -> Word {
+    if is_word(at, b"--strict") {
+        return Word::Strict;
+    }
+    if is_word(at, b"--pass") {
+        return Word::Pass;
+    }
+    if is_word(at, b"--origins") {
+        return Word::Origins;
+    }
+    if is_word(at, b"--") {
+        return Word::End;
+    }
+    if is_option(at) {
+        return Word::Unknown;
+    }
+    Word::Name
+}
+
+// The place of the next argument.
+pub fn past(at: usize) -> usize {
+    if at < usize::MAX { at + 1 } else { at }
 }
 
 // What a word is as a number.
@@ -62,14 +93,14 @@ pub fn number_of(at: usize) -> Number {
 }
 
 // Whether an argument is a word. One that is missing or very long is none.
-pub fn is_word(at: usize, word: &[u8]) -> bool {
+fn is_word(at: usize, word: &[u8]) -> bool {
     let mut room = io::buffer();
     let n = os::arg(at, &mut room);
     lines::same(&room[..n], word)
 }
 
 // Whether an argument is an option: it begins with `-` and has more behind it.
-pub fn is_option(at: usize) -> bool {
+fn is_option(at: usize) -> bool {
     let mut room = io::buffer();
     let n = os::arg(at, &mut room);
     (n > 1) & (room[0] == b'-')

@@ -1,5 +1,5 @@
-// Tidies a listing: `optlines [--strict] [--pass N] [--] [FILE]`, where `--strict` may also stand behind `--pass N`. It reads FILE, or
-// standard input, and writes the tidy listing, or `refused`, the number and the place, to standard output. On standard error it says nothing where it tidied, `optlines: refused ..` first where it refused, and
+// Tidies a listing: `optlines [--strict] [--pass N] [--origins RECORDS] [--] [FILE]`, the options in any order. It reads FILE, or
+// standard input, and writes the tidy listing, or `refused`, the number and the place, to standard output, and the records of a tidy one to RECORDS. On standard error it says nothing where it tidied, `optlines: refused ..` first where it refused, and
 // anything else where it could not read or write: a program in Rattle sets no exit status, so tools/front.sh makes one of that.
 mod asked;
 mod tell;
@@ -9,6 +9,7 @@ ghost use Prim.Native.Nat.{_≤_};
 ghost use lib.ListN.{length};
 use asked::Passes;
 use asked::Task;
+use asked::Word;
 use libc::STDERR_FILENO;
 use libc::STDIN_FILENO;
 use libc::STDOUT_FILENO;
@@ -35,8 +36,15 @@ fn block_room() -> [u32; 16384]
     [0; 16384]
 }
 
+// Room for the records of all lines.
+fn record_room() -> [u8; 7168]
+    ensures { λ r. ⌜ 7168 ≡ length r ⌝ }
+{
+    [0; 7168]
+}
+
 // Tidies a text, with the work buffers that it needs.
-fn tidy(mode: usize, text: &[u8], out: &mut [u8]) -> Answer {
+fn tidy(mode: usize, text: &[u8], out: &mut [u8], orig: &mut [u8]) -> Answer {
     let mut a = work_room();
     let mut b = work_room();
     let mut c = work_room();
@@ -53,11 +61,12 @@ fn tidy(mode: usize, text: &[u8], out: &mut [u8]) -> Answer {
         &mut e,
         &mut u,
         out,
+        orig,
     )
 }
 
 // Runs one pass over a text, with the same work buffers.
-fn run_one(pass: usize, mode: usize, text: &[u8], out: &mut [u8]) -> Answer {
+fn run_one(pass: usize, mode: usize, text: &[u8], out: &mut [u8], orig: &mut [u8]) -> Answer {
     let mut a = work_room();
     let mut b = work_room();
     let mut c = work_room();
@@ -75,16 +84,17 @@ fn run_one(pass: usize, mode: usize, text: &[u8], out: &mut [u8]) -> Answer {
         &mut e,
         &mut u,
         out,
+        orig,
     )
 }
 
 // Does to a text what is asked.
-fn answer_to(task: Task, text: &[u8], out: &mut [u8]) -> Answer {
+fn answer_to(task: Task, text: &[u8], out: &mut [u8], orig: &mut [u8]) -> Answer {
     let passes = task.passes;
     let mode = task.mode;
     match passes {
-        Passes::All => tidy(mode, text, out),
-        Passes::One(pass) => run_one(pass, mode, text, out),
+        Passes::All => tidy(mode, text, out, orig),
+        Passes::One(pass) => run_one(pass, mode, text, out, orig),
     }
 }
 
@@ -106,8 +116,44 @@ fn put_answer(answer: Answer, out: &[u8]) -> bool {
     put_refused(number, limits::place_of(answer))
 }
 
+// Writes records to the file of a name, and says why where they did not go there whole.
+fn write_records(name: &[u8], records: &[u8]) {
+    let fd = os::open_overwrite(name);
+    if fd < 0 {
+        tell::fail(b"write ", name);
+        return;
+    }
+    if !io::write_all(fd, records) {
+        tell::fail(b"write ", name);
+        return;
+    }
+    if libc::close(fd) != 0 {
+        tell::fail(b"write ", name);
+    }
+}
+
+// How many bytes the records of `n` lines are: a text that is taken has at most 1,024.
+fn records_size(n: usize) -> usize {
+    if n <= 1024 { n * 7 } else { 0 }
+}
+
+// Writes the records of a text to the file that argument `at` names, unless it is 0.
+fn put_records(at: usize, text: &[u8], orig: &[u8]) {
+    if at == 0 {
+        return;
+    }
+    let mut name = io::buffer();
+    let n = os::arg(at, &mut name);
+    if os::errno() != 0 {
+        os::fail(b"optlines: cannot take the name of the file for the records");
+        return;
+    }
+    let size = records_size(lines::count_lines(text));
+    write_records(&name[..n], lines::cut(orig, 0, size));
+}
+
 // Says what came of a text. A refusal is told on standard error too: a tidy text may read like one, and a person wants to know more.
-fn report(answer: Answer, text: &[u8], name: &[u8], out: &[u8]) {
+fn report(task: Task, answer: Answer, text: &[u8], name: &[u8], out: &[u8], orig: &[u8]) {
     if !put_answer(answer, out) {
         os::fail(b"optlines: cannot write standard output");
         return;
@@ -115,18 +161,21 @@ fn report(answer: Answer, text: &[u8], name: &[u8], out: &[u8]) {
     let number = limits::number_of(answer);
     if number != 0 {
         tell::explain(number, limits::place_of(answer), text, name);
+        return;
     }
+    put_records(task.records, text, orig);
 }
 
 // Tidies what a descriptor delivers. Of a text that did not come whole nothing is written.
 fn tidy_input(task: Task, fd: i32, name: &[u8]) {
     let mut text = text_room();
     let mut out = work_room();
+    let mut orig = record_room();
     match input::read_input(fd, &mut text) {
         input::Got::Whole(n) => {
             let whole = lines::cut(&text, 0, n);
-            let answer = answer_to(task, whole, &mut out);
-            report(answer, whole, name, &out);
+            let answer = answer_to(task, whole, &mut out, &mut orig);
+            report(task, answer, whole, name, &out, &orig);
         }
         input::Got::Failed => tell::fail(b"read ", name),
     }
@@ -162,69 +211,115 @@ fn tidy_named(task: Task, at: usize) {
 }
 
 // Takes the arguments from `at` on: a file's name, or none.
-fn take_file(task: Task, at: usize)
-    requires { ⌜ at ≤ 6 ⌝ }
-{
-    if os::arg_count() > at + 1 {
+fn take_file(task: Task, at: usize) {
+    if os::arg_count() > asked::past(at) {
         io::write_all(STDERR_FILENO, b"optlines: more than one file is named\n");
         return;
     }
     tidy_named(task, at);
 }
 
-// Takes the arguments from `at` on: `--` or nothing, then a file's name or none.
-fn take_rest(task: Task, at: usize)
-    requires { ⌜ at ≤ 5 ⌝ }
-{
-    if asked::is_word(at, b"--") {
-        take_file(task, at + 1);
-        return;
+// What comes of an argument: an option is taken and the next one follows, a file's name or none stands from a place on, or it is wrong, which is said.
+enum Taken {
+    Option(Next),
+    Rest(usize),
+    Wrong,
+}
+
+// What is asked so far, and the place of the next argument.
+struct Next {
+    task: Task,
+    at: usize,
+}
+
+// Takes the number of a pass from argument `at`.
+fn take_pass(task: Task, at: usize) -> Taken {
+    match asked::number_of(at) {
+        asked::Number::Is(pass) => {
+            let passes = Passes::One(pass);
+            let mode = task.mode;
+            let records = task.records;
+            let task = Task {
+                passes,
+                mode,
+                records,
+            };
+            let at = asked::past(at);
+            Taken::Option(Next { task, at })
+        }
+        asked::Number::Missing => {
+            tell::say_word(b"optlines: --pass wants a number from 1 to 6, not: ", at);
+            Taken::Wrong
+        }
     }
-    if asked::is_option(at) {
-        tell::say_word(b"optlines: no such option: ", at);
-        return;
+}
+
+// Takes the name of the file for the records from argument `at`.
+fn take_records(task: Task, at: usize) -> Taken {
+    if os::arg_count() <= at {
+        io::write_all(STDERR_FILENO, b"optlines: --origins wants a file's name\n");
+        return Taken::Wrong;
+    }
+    let passes = task.passes;
+    let mode = task.mode;
+    let task = Task {
+        passes,
+        mode,
+        records: at,
+    };
+    let at = asked::past(at);
+    Taken::Option(Next { task, at })
+}
+
+// Takes argument `at`.
+fn take(task: Task, at: usize) -> Taken {
+    let next = asked::past(at);
+    match asked::word_at(at) {
+        Word::Strict => {
+            let passes = task.passes;
+            let records = task.records;
+            let task = Task {
+                passes,
+                mode: asked::STRICT,
+                records,
+            };
+            Taken::Option(Next { task, at: next })
+        }
+        Word::Pass => take_pass(task, next),
+        Word::Origins => take_records(task, next),
+        Word::End => Taken::Rest(next),
+        Word::Unknown => {
+            tell::say_word(b"optlines: no such option: ", at);
+            Taken::Wrong
+        }
+        Word::Name => Taken::Rest(at),
+    }
+}
+
+// Takes the arguments: options in any order, then `--` or nothing, then a file's name or none.
+fn main() {
+    let mut task = Task {
+        passes: Passes::All,
+        mode: asked::PLAIN,
+        records: 0,
+    };
+    let mut at = 1;
+    let mut left = os::arg_count();
+    while 0 < left {
+        match take(task, at) {
+            Taken::Option(n) => {
+                task = n.task;
+                at = n.at;
+                left -= 1;
+            }
+            Taken::Rest(i) => {
+                take_file(task, i);
+                return;
+            }
+            Taken::Wrong => {
+                return;
+            }
+        }
     }
     take_file(task, at);
-}
-
-// Takes the arguments from `at` on, behind `--pass N`: `--strict` or nothing, then the rest.
-fn take_one(pass: usize, strict: bool, at: usize)
-    requires { ⌜ at ≤ 4 ⌝ }
-{
-    let again = asked::is_word(at, b"--strict");
-    let passes = Passes::One(pass);
-    let mode = asked::mode_of(strict | again);
-    let task = Task { passes, mode };
-    if again {
-        take_rest(task, at + 1);
-        return;
-    }
-    take_rest(task, at);
-}
-
-// Takes the arguments from `at` on: `--pass N` or nothing, then the rest.
-fn take_passes(strict: bool, at: usize)
-    requires { ⌜ at ≤ 2 ⌝ }
-{
-    if !asked::is_word(at, b"--pass") {
-        let passes = Passes::All;
-        let mode = asked::mode_of(strict);
-        take_rest(Task { passes, mode }, at);
-        return;
-    }
-    match asked::number_of(at + 1) {
-        asked::Number::Is(pass) => take_one(pass, strict, at + 2),
-        asked::Number::Missing => tell::say_word(
-            b"optlines: --pass wants a number from 1 to 6, not: ",
-            at + 1,
-        ),
-    }
-}
-
-fn main() {
-    if asked::is_word(1, b"--strict") {
-        take_passes(true, 2);
-        return;
-    }
-    take_passes(false, 1);
 }

@@ -2,6 +2,7 @@ pub mod FateLaws
 pub mod CodeLaws
 pub mod TableLaws
 pub mod Notes
+pub mod Staying
 pub mod RoundTrip
 pub mod Tails
 pub mod Turns
@@ -9,6 +10,7 @@ pub mod Behind
 pub mod InStep
 pub mod Puts
 pub mod RawLines
+pub mod Firsts
 pub mod Walks
 pub mod Thins
 pub mod Examples

@@ -1,19 +1,18 @@
 -- A pass that writes its lines one by one notes the moves of its acts: by where it wrote. Assumes nothing.
-use Prim.Native.Nat.{ℕ, suc, _+_, _≤_, _<_}
+use Prim.Native.Nat.{ℕ, suc, _+_, _-_, _≤_}
 use mathlib.Core.Path.{_≡_, refl, sym, ap, subst, _∙_}
 use mathlib.Core.Bool.{Bool, true, false}
-use mathlib.Core.List.{List, [], _∷_}
+use mathlib.Core.List.{List, [], _∷_, _++_, append-assoc}
 use native.Mathlib.Omega.{arith}
 use borrow.Author.Tests.{eq-eqb, ne-eqb}
-use native.Mathlib.Nat.{add-zero}
-use native.Mathlib.Numerals.{add-one}
-use lib.ListN.{length, set, length-append, replicate}
+use borrow.Rule.Slice.PartMut.{putMid, post-is}
+use lib.ListN.{length, take, drop, length-append, length-take, length-drop, length-replicate, replicate}
 use Rattle.lines.specs.Acts.{Act, keep, become, into, gone, act}
 use Rattle.lines.specs.Lf.{unlines, all}
-use Rattle.lines.specs.Inner.Out.{Wrote}
+use Rattle.lines.specs.Inner.Out.{Wrote, putAt}
 use Rattle.lines.proofs.Tests.{no}
 use Rattle.lines.proofs.ActLaws.{keeps}
-use Rattle.lines.proofs.OutLaws.{wrote-as, wrote-nil, wrote-more, zeros-more}
+use Rattle.lines.proofs.OutLaws.{wrote-as}
 use Rattle.origins.specs.Inner.Codes.{moveOf, movesOf, noteOf}
 
 -- a line stays, becomes another or is gone
@@ -55,15 +54,17 @@ moves-end acts {d} {d′} {r} n e w =
 pub stay-moves : (acts : List Act) {d d′ : List ℕ} {r : ℕ} (n : ℕ) → length acts ≡ n → all keeps acts ≡ true → Wrote d 0 (replicate n 0) d′ r → Wrote d 0 (movesOf acts) d′ n
 stay-moves acts n e h w = moves-end acts n e (wrote-as (ap (λ (j : ℕ). replicate j 0) (sym e) ∙ sym (moves-stay acts h)) w)
 
--- ---- the loop of `stay`
-
-pub stay-start : (d : List ℕ) (k : ℕ) → k ≤ length d → Wrote d k (replicate 0 0) d (k + 0)
-stay-start d k h = rw (add-zero k) (wrote-nil d k h)
-
-pub stay-on : {d₀ d : List ℕ} (k i : ℕ) → k + i < length d → Wrote d₀ k (replicate i 0) d (k + i) → Wrote d₀ k (replicate (i + 1) 0) (set d (k + i) 0) (k + (i + 1))
-stay-on {d₀} {d} k i h w =
-    let q : k + i + 1 ≡ k + (i + 1) = omega arith in
-    subst (λ (n : ℕ). Wrote d₀ k (replicate (i + 1) 0) (set d (k + i) 0) n) q (wrote-as (zeros-more i ∙ ap (λ (n : ℕ). replicate n 0) (sym (add-one i))) (wrote-more 0 w h))
-
-pub stay-end : {d₀ d : List ℕ} (k i n : ℕ) → i ≡ n → Wrote d₀ k (replicate i 0) d (k + i) → Wrote d₀ k (replicate n 0) d (k + n)
-stay-end {d₀} {d} k i n e w = subst (λ (n : ℕ). Wrote d₀ k (replicate n 0) d (k + n)) e w
+-- what was noted of lines that all stay in the part of a table that is theirs
+pub stay-part : (d ys : List ℕ) (k n : ℕ) → k + n ≤ length d → ys ≡ replicate (length (take (k + n - k) (drop k d))) 0 → Wrote d k (replicate n 0) (putMid k (k + n - k) d ys) (k + n)
+unfolding putAt
+stay-part d ys k n h e =
+    let m : length (take (k + n - k) (drop k d)) ≡ n = omega (arith, length-take (k + n - k) (drop k d), length-drop k d) in
+    let q : k + n ≡ k + length (replicate {A = ℕ} n 0) = omega (arith, length-replicate {A = ℕ} n 0) in
+    record {
+      fits = omega arith;
+      place = q;
+      holds =
+          ap (putMid k (k + n - k) d) (e ∙ ap (λ (j : ℕ). replicate j 0) m)
+          ∙ ap (λ (l : List ℕ). take k d ++ (replicate n 0 ++ l)) (post-is k (k + n) d (omega arith) ∙ ap (λ (j : ℕ). drop j d) q)
+          ∙ sym (append-assoc (take k d) (replicate n 0) (drop (k + length (replicate {A = ℕ} n 0)) d));
+    }

@@ -8,7 +8,7 @@ use native.Mathlib.Nat.{zero-add, add-zero}
 use native.Mathlib.Numerals.{add-one}
 use borrow.Author.Tests.{eq-eqb, ne-eqb, lt-ltb, le-ltb}
 use lib.Dec.{eqb}
-use lib.ListN.{length, take, drop, getD, set, length-append, length-take, length-drop, drop-of-length-le}
+use lib.ListN.{length, take, drop, getD, set, length-append, length-take, length-drop, drop-of-length-le, List·getD-eq-default}
 use lib.Seq.{drop-cons, take-length, drop-length, drop-append-add, getD-append-add}
 use Rattle.lines.specs.Inner.Out.{Wrote}
 use Rattle.lines.proofs.OutLaws.{wrote-byte, wrote-as, wrote-nil, wrote-more, wrote-whole}
@@ -41,9 +41,17 @@ pub land-down : (below : List ℕ) (d r x : ℕ) → 0 < d → x ≡ getD below 
 land-down below zero r x h p q = absurd (omega arith)
 land-down below (suc d) r x h p q = let e : suc d - 1 ≡ d = omega arith in q ∙ ap takenCode (p ∙ ap (λ (k : ℕ). getD below k farMove) e)
 
-pub on-low : (gs : List ℕ) (c r : ℕ) → c < half → r ≡ getD gs c farMove → r ≡ onCode gs c
+pub on-in : (gs : List ℕ) (c : ℕ) → c < length gs → length gs ≤ half → getD gs c 0 ≡ onCode gs c
 unfolding onCode
-on-low gs c r h p = rw (lt-ltb c half h) p
+on-in gs c h k = rw (lt-ltb c half (omega arith)) (in-any gs c 0 farMove h)
+
+pub on-out : (gs : List ℕ) (c : ℕ) → length gs ≤ c → c < half → farMove ≡ onCode gs c
+unfolding onCode
+on-out gs c h k = rw (lt-ltb c half k) (sym (List·getD-eq-default gs farMove {n = c} h))
+
+pub on-far : (gs : List ℕ) (c : ℕ) → c ≡ farMove → length gs < half → farMove ≡ onCode gs c
+unfolding onCode takenCode
+on-far gs c e k = rw (e, List·getD-eq-default gs farMove {n = farMove - half} (omega arith))
 
 pub on-high : (gs : List ℕ) (c r x : ℕ) → half ≤ c → x ≡ getD gs (c - half) farMove → r ≡ takenCode x → r ≡ onCode gs c
 unfolding onCode

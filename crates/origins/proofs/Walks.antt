@@ -10,6 +10,7 @@ use lib.ListN.{length, take, drop, getD, length-drop, length-append, drop-of-len
 use lib.Seq.{getD-drop, drop-drop, drop-cons}
 use Rattle.lines.specs.Lf.{upTo, part, linesOf, same}
 use Rattle.lines.specs.Steps.{dropCr, splitLines}
+use Rattle.lines.specs.Inner.Lf.{lacks}
 use Rattle.lines.specs.Inner.Out.{Wrote}
 use Rattle.lines.proofs.Tests.{and-left, and-right, and-false}
 use Rattle.lines.proofs.LfLaws.{lines-at, lines-end, drop-min, find-le}
@@ -18,9 +19,10 @@ use Rattle.origins.specs.declared.Went.{Went}
 use Rattle.origins.specs.declared.Went.the-variants.{Equal, Changed, Inside, Away}
 use Rattle.origins.specs.Form.{Shape, sizeOf, recordBytes, recordsFrom, fileOf}
 use Rattle.origins.specs.Inner.Codes.{farMove, half}
-use Rattle.origins.specs.Inner.Written.{saidOne, leftOver, wentsBy, bareLen, bareBy}
+use Rattle.origins.specs.Inner.Written.{saidOne, leftOver, wentsBy, bareLen, bareBy, firstEnd, saidFirst}
 use Rattle.origins.proofs.RawLines.{split-first, bare-is}
 use Rattle.origins.proofs.RoundTrip.{record-length}
+use Rattle.origins.proofs.Firsts.{up-lacks, told-said, told-next}
 
 -- ---- where a raw line ends
 
@@ -44,7 +46,7 @@ module _ (t : List ℕ) (i e : ℕ) (a : i ≤ e) (b : e ≤ length t) where
   unfolding bareBy
   bare-kept h z = rw (last-at h, ne-eqb (getD t (e - 1) 0) 13 z, and-false (ltb (e - i) (length (drop i t))), and-false (ltb 0 (e - i))) (omega arith)
 
-bare-le : (s : List ℕ) (n : ℕ) → bareBy s n ≤ n
+pub bare-le : (s : List ℕ) (n : ℕ) → bareBy s n ≤ n
 unfolding bareBy
 bare-le s n = go (ltb 0 n && (ltb n (length s) && eqb (getD s (n - 1) 0) 13))
   where
@@ -54,21 +56,9 @@ bare-le s n = go (ltb 0 n && (ltb n (length s) && eqb (getD s (n - 1) 0) 13))
 
 -- ---- what is said of a line
 
-pub said-away : (l o : List ℕ) (c : ℕ) → c ≡ farMove → Away ≡ saidOne l o c
-unfolding saidOne
-said-away l o c e = rw e
-
-pub said-inside : (l o : List ℕ) (c : ℕ) → (c ≡ farMove → ⊥) → half ≤ c → Inside (c - half) ≡ saidOne l o c
-unfolding saidOne
-said-inside l o c e h = rw (le-ltb c half h, ne-eqb c farMove e)
-
--- the same, by whether the line stands
+-- by whether the line stands
 abbrev saidBy : Bool → List ℕ → List ℕ → ℕ → Went
 saidBy b l o c = cond b (cond (same l o) (Equal c) (Changed c)) (cond (eqb c farMove) Away (Inside (c - half)))
-
-pub said-kept : (l o : List ℕ) (c : ℕ) (b : Bool) → c < half → same l o ≡ b → cond b (Equal c) (Changed c) ≡ saidOne l o c
-unfolding saidOne
-said-kept l o c b h e = rw (lt-ltb c half h, e)
 
 -- ---- the lines that came out
 
@@ -190,13 +180,21 @@ module _ {F : Shape} {t lf cs d₀ d : List ℕ} {i p k o : ℕ} (h : WalkInv F 
         let w = next _ refl in
         omega (arith, writing-room w, length-append (recordBytes F k now-said) (rest F t lf cs (min (e + 1) (length t)) (cond (ltb (getD cs k 0) half) (min (q + 1) (length lf)) q) (k + 1)), record-length F k now-said [])
 
-    pub walk-on : (m : Went) (d′ : List ℕ) (n r j : ℕ) → m ≡ now-said → Wrote d o (recordBytes F k m) d′ n → r ≡ cond (ltb (getD cs k 0) half) (min (q + 1) (length lf)) q → j ≡ min (e + 1) (length t) → WalkInv F t lf cs d₀ d′ j r (k + 1) n
+    walk-on : (m : Went) (d′ : List ℕ) (n r j : ℕ) → m ≡ now-said → Wrote d o (recordBytes F k m) d′ n → r ≡ cond (ltb (getD cs k 0) half) (min (q + 1) (length lf)) q → j ≡ min (e + 1) (length t) → WalkInv F t lf cs d₀ d′ j r (k + 1) n
     walk-on m d′ n r j s w v g = record {
       i≤ = omega arith;
       p≤ = out-le r v;
       k≤ = omega arith;
       writing = rw g (writing-put (next r v) (subst (λ (y : Went). Wrote d o (recordBytes F k y) d′ n) s w));
     }
+
+    lacking : lacks 10 (part i x t) ≡ true
+    lacking = up-lacks 10 (x - i) (drop i t) (omega (arith, u, y, bare-le (drop i t) (e - i)))
+
+    -- the same by what is said of it and of the lines that came out from the next on
+    pub walk-told : (m : Went) (d′ : List ℕ) (n r j : ℕ) → m ≡ saidFirst (part i x t) (drop p lf) (getD cs k 0) → Wrote d o (recordBytes F k m) d′ n →
+        r ≡ cond (ltb (getD cs k 0) half) (min (p + firstEnd (part i x t) (drop p lf) + 1) (length lf)) p → j ≡ min (e + 1) (length t) → WalkInv F t lf cs d₀ d′ j r (k + 1) n
+    walk-told m d′ n r j s w v g = walk-on m d′ n r j (s ∙ told-said (part i x t) lf p q (getD cs k 0) z lacking) w (told-next (part i x t) lf p q (getD cs k 0) z lacking r v) g
 
   pub walk-end : ltb i (length t) && ltb k (length cs) ≡ false → Wrote d₀ 0 (fileOf F (wentsBy (linesOf lf) (splitLines t) cs)) d o
   unfolding recordsFrom wentsBy
@@ -207,12 +205,6 @@ module _ {F : Shape} {t lf cs d₀ d : List ℕ} {i p k o : ℕ} (h : WalkInv F 
       none false e f =
           ap (λ (l : List ℕ). recordsFrom F k (wentsBy (linesOf (drop p lf)) (splitLines l) (drop k cs))) (drop-of-length-le t (ltb-false i (length t) e))
           ∙ ap (λ (ls : List (List ℕ)). recordsFrom F k (wentsBy (linesOf (drop p lf)) ls (drop k cs))) split-none
-
-pub by-stands : (c a b r : ℕ) → c < half → r ≡ a → r ≡ cond (ltb c half) a b
-by-stands c a b r h e = rw (lt-ltb c half h) e
-
-pub by-stays : (c a b : ℕ) → half ≤ c → b ≡ cond (ltb c half) a b
-by-stays c a b h = rw (le-ltb c half h)
 
 pub both-in : (i n k m : ℕ) → ltb i n && ltb k m ≡ true → (i < n) × (k < m)
 both-in i n k m h = (ltb-true i n (and-left (ltb i n) (ltb k m) h), ltb-true k m (and-right (ltb i n) (ltb k m) h))

@@ -4,14 +4,14 @@ ghost use mathlib.Core.Bool.{cond};
 ghost use mathlib.Core.List.{[], _∷_};
 ghost use Prim.Native.Nat.{_≤_, _<_, _+_, _-_, min};
 ghost use lib.Dec.{eqb, ltb};
-ghost use lib.ListN.{length, getD, set, drop, replicate};
-ghost use Rattle.lines.specs.Lf.{upTo, linesOf, lowBytes};
+ghost use lib.ListN.{length, getD, set, take, drop, replicate};
+ghost use Rattle.lines.specs.Lf.{part, upTo, prefixed, same, linesOf, lowBytes};
 ghost use Rattle.lines.specs.Steps.{splitLines};
 ghost use Rattle.lines.specs.Inner.Out.{Wrote};
 ghost use Rattle.origins.specs.Inner.Fates.{staying};
 ghost use Rattle.origins.specs.Form.{formShape, goneOf, sizeOf, fateByte, outLine, recordBytes, fileOf};
-ghost use Rattle.origins.specs.Inner.Codes.{half, farMove, noteOf, codesOf, takenCode, landGo, onCode, through, standing};
-ghost use Rattle.origins.specs.Inner.Written.{saidOne, wentsBy, bareBy};
+ghost use Rattle.origins.specs.Inner.Codes.{half, farMove, noteOf, codesOf, takenCode, landGo, onCode, through, standing, allStay};
+ghost use Rattle.origins.specs.Inner.Written.{saidFirst, firstIs, firstEnd, wentsBy, bareBy};
 
 // What a record says of a line: it is kept with equal bytes as an output line, kept with other bytes, its value is inside one, or it is away.
 pub enum Went {
@@ -63,11 +63,7 @@ fn stay(moves: &mut [usize], k: usize, n: usize) -> usize
     requires { ⌜ k + n ≤ length (now moves) ⌝ }
     ensures { λ r. ⌜ Wrote (now (moves .entry)) k (replicate n 0) (now (moves .exit)) r ⌝ }
 {
-    let mut i = 0;
-    while i < n {
-        moves[k + i] = 0;
-        i += 1;
-    }
+    lines::wipe_words(&mut moves[k..k + n]);
     k + n
 }
 
@@ -180,6 +176,19 @@ pub fn land(moves: &mut [usize]) -> usize
     n
 }
 
+// Whether all lines stay. It goes on to the end, so that the compiler takes many numbers at a time.
+pub fn all_stay(moves: &[usize]) -> bool
+    ensures { λ r. ⌜ r ≡ allStay (now (moves .entry)) ⌝ }
+{
+    let mut any = 0;
+    let mut i = 0;
+    while i < moves.len() {
+        any = any | moves[i];
+        i += 1;
+    }
+    any == 0
+}
+
 // Fills a table with the codes of lines that all stay: 0, 1, 2, ..
 pub fn start(table: &mut [usize])
     ensures { λ _. ⌜ now (table .exit) ≡ codesOf (staying (length (now (table .entry))) 0) ⌝ }
@@ -195,8 +204,14 @@ pub fn start(table: &mut [usize])
 fn on_code(codes: &[usize], c: usize) -> usize
     ensures { λ r. ⌜ r ≡ onCode (now (codes .entry)) c ⌝ }
 {
+    if c < codes.len() {
+        return codes[c];
+    }
+    if c == FAR {
+        return FAR;
+    }
     if c < HALF {
-        return code_at(codes, c);
+        return FAR;
     }
     let d = code_at(codes, c - HALF);
     taken_code(d)
@@ -315,49 +330,99 @@ fn bare_end(text: &[u8], i: usize, e: usize) -> usize
     if e <= i {
         return e;
     }
+    if text[e - 1] != 13 {
+        return e;
+    }
     if text.len() <= e {
         return e;
     }
-    if text[e - 1] == 13 {
-        return e - 1;
-    }
-    e
+    e - 1
 }
 
-// What is said of a line by its code, where `o` is the next line that came out.
-fn said_one(line: &[u8], o: &[u8], c: usize) -> Went
-    ensures { λ r. ⌜ r ≡ saidOne (now (line .entry)) (now (o .entry)) c ⌝ }
+// Whether the eight bytes of both at a place are equal; the compiler compares them at once.
+fn same_eight(s: &[u8], t: &[u8], j: usize) -> bool
+    requires { ⌜ (j + 8 ≤ length (now s)) × (j + 8 ≤ length (now t)) ⌝ }
+    ensures { λ r. ⌜ r ≡ same (take 8 (drop j (now (s .entry)))) (take 8 (drop j (now (t .entry)))) ⌝ }
+{
+    (s[j] == t[j])
+        & ((s[j + 1] == t[j + 1])
+            & ((s[j + 2] == t[j + 2])
+                & ((s[j + 3] == t[j + 3])
+                    & ((s[j + 4] == t[j + 4])
+                        & ((s[j + 5] == t[j + 5])
+                            & ((s[j + 6] == t[j + 6]) & (s[j + 7] == t[j + 7])))))))
+}
+
+// Whether `p` stands at the front of `s`, which is no shorter: by eight bytes, the last eight of which may be some of the same.
+fn starts_with(s: &[u8], p: &[u8]) -> bool
+    requires { ⌜ length (now p) ≤ length (now s) ⌝ }
+    ensures { λ r. ⌜ r ≡ prefixed (now (p .entry)) (now (s .entry)) ⌝ }
+{
+    if p.len() < 8 {
+        return lines::starts_with(s, p);
+    }
+    let m = p.len() - 8;
+    let mut j = 0;
+    while j < m {
+        if same_eight(p, s, j) {
+            j += 8;
+        } else {
+            return false;
+        }
+    }
+    same_eight(p, s, m)
+}
+
+// Whether `line` stands at the front of `s`, and an LF or nothing behind it.
+fn first_is(line: &[u8], s: &[u8]) -> bool
+    ensures { λ r. ⌜ r ≡ firstIs (now (line .entry)) (now (s .entry)) ⌝ }
+{
+    let n = line.len();
+    if s.len() <= n {
+        return lines::starts_with(s, line);
+    }
+    if s[n] != 10 {
+        return false;
+    }
+    starts_with(s, line)
+}
+
+// What is said of a line, and where the next line that came out begins.
+struct Told {
+    went: Went,
+    next: usize,
+}
+
+// What is said by its code of the line that stands in the raw text from `i` to `e`, where `p` is the next line that came out: that one is looked at only where the line stands.
+fn tell(text: &[u8], i: usize, e: usize, lf: &[u8], p: usize, c: usize) -> Told
+    requires { ⌜ ((i ≤ e) × (e ≤ length (now text))) × (p ≤ length (now lf)) ⌝ }
+    ensures went { λ r. ⌜ r .went ≡ saidFirst (part i (i + bareBy (drop i (now (text .entry))) (e - i)) (now (text .entry))) (drop p (now (lf .entry))) c ⌝ }
+    ensures next { λ r. ⌜ r .next ≡ cond (ltb c half) (min (p + firstEnd (part i (i + bareBy (drop i (now (text .entry))) (e - i)) (now (text .entry))) (drop p (now (lf .entry))) + 1) (length (now (lf .entry)))) p ⌝ }
 {
     if c == FAR {
-        return Went::Away;
+        return Told {
+            went: Went::Away,
+            next: p,
+        };
     }
     if HALF <= c {
-        return Went::Inside(c - HALF);
+        return Told {
+            went: Went::Inside(c - HALF),
+            next: p,
+        };
     }
-    if lines::same(line, o) {
-        return Went::Equal(c);
+    let t = bare_end(text, i, e);
+    if first_is(&text[i..t], &lf[p..]) {
+        return Told {
+            went: Went::Equal(c),
+            next: lines::after(lf, p + (t - i)),
+        };
     }
-    Went::Changed(c)
-}
-
-// Where the next line that came out ends, for a line of the code `c`: it is asked only where that one stands.
-fn out_end(lf: &[u8], p: usize, c: usize) -> usize
-    ensures { λ r. ⌜ r ≡ cond (ltb c half) (p + upTo 10 (drop p (now (lf .entry)))) p ⌝ }
-{
-    if c < HALF {
-        return lines::find_byte(lf, p, 10);
+    let q = lines::find_byte(lf, p, 10);
+    Told {
+        went: Went::Changed(c),
+        next: lines::after(lf, q),
     }
-    p
-}
-
-// Where the next line that came out begins, after a line of the code `c`.
-fn next_out(lf: &[u8], q: usize, c: usize) -> usize
-    ensures { λ r. ⌜ r ≡ cond (ltb c half) (min (q + 1) (length (now (lf .entry)))) q ⌝ }
-{
-    if c < HALF {
-        return lines::after(lf, q);
-    }
-    q
 }
 
 // Writes the records of the lines of a raw text, by their codes, where `lf` has the lines that came out. Returns the place after them.
@@ -372,11 +437,10 @@ pub fn put_records(f: Form, text: &[u8], lf: &[u8], table: &[usize], orig: &mut 
     while (i < text.len()) & (k < table.len()) {
         let c = table[k];
         let e = lines::find_byte(text, i, 10);
-        let q = out_end(lf, p, c);
-        let t = bare_end(text, i, e);
-        let w = said_one(&text[i..t], &lf[p..q], c);
+        let told = tell(text, i, e, lf, p, c);
+        let w = told.went;
         o = put_record(orig, o, f, k, w);
-        p = next_out(lf, q, c);
+        p = told.next;
         k += 1;
         i = lines::after(text, e);
     }

@@ -1,5 +1,5 @@
 -- Laws of running passes one after the other over the front of a buffer. Assumes nothing.
-use Prim.Native.Nat.{ℕ, suc, _+_, _-_, _≤_, _<_}
+use Prim.Native.Nat.{ℕ, zero, suc, _+_, _-_, _≤_, _<_}
 use mathlib.Core.Path.{_≡_, refl, sym, ap, _∙_}
 use mathlib.Core.List.{List}
 use native.Mathlib.Omega.{arith}
@@ -11,12 +11,18 @@ use Rattle.lines.specs.Steps.{splitLines}
 use Rattle.lines.proofs.LfLaws.{lines-unlines}
 use Rattle.lines.proofs.StepLaws.{split-room}
 use Rattle.lines.proofs.OutLaws.{wrote-length, wrote-part}
+use Rattle.origins.specs.Inner.Fates.{Fate, follow, staying}
+use Rattle.origins.specs.Inner.Codes.{half, codesOf, through}
+use Rattle.origins.proofs.FateLaws.{follow-assoc, stay-follow, follow-stay}
+use Rattle.origins.proofs.CodeLaws.{through-follow}
 use Rattle.reading.specs.Reading.{Reading, readingOf}
-use Rattle.reading.proofs.ByLine.{mode-by-line}
-use Rattle.steps.specs.Step.{stepOf}
+use Rattle.reading.proofs.ByLine.{ByLine, mode-by-line}
+use Rattle.steps.specs.Step.{stepOf, stepFates}
 use Rattle.steps.specs.Inner.Bounds.{Bounded, Sized, Tabled}
 use Rattle.steps.proofs.Tame.{tame-step, room-fits}
-use Rattle.passes.specs.Inner.Passes.{stepsOf}
+use Rattle.steps.proofs.Traces.{lines-half}
+use Rattle.steps.proofs.Goings.{Goes, goes-under, goes-then, goes-stay, step-goes}
+use Rattle.passes.specs.Inner.Passes.{stepsOf, stepsFates}
 use Rattle.limits.specs.declared.Limits.{Limits}
 use Rattle.limits.specs.Entry.{byteSize}
 use Rattle.limits.specs.Inner.Sane.{Within}
@@ -35,7 +41,7 @@ front-copied {a} {b} {a′} {xs} {n} {r} f w = let g = wrote-front w in record {
 -- ---- the loop of `chain`
 
 -- the buffers and tables are as long as they were
-pub record Same (a b c d e f g h u v w x p q r t a′ b′ c′ d′ e′ f′ g′ h′ u′ v′ w′ x′ p′ q′ r′ t′ : List ℕ) : Type 0 where
+pub record Same (a b c d e f g h u v w x p q r t z a′ b′ c′ d′ e′ f′ g′ h′ u′ v′ w′ x′ p′ q′ r′ t′ z′ : List ℕ) : Type 0 where
   pub a-same : length a′ ≡ length a
   pub b-same : length b′ ≡ length b
   pub c-same : length c′ ≡ length c
@@ -52,46 +58,68 @@ pub record Same (a b c d e f g h u v w x p q r t a′ b′ c′ d′ e′ f′ g
   pub q-same : length q′ ≡ length q
   pub r-same : length r′ ≡ length r
   pub t-same : length t′ ≡ length t
+  pub z-same : length z′ ≡ length z
 
-module _ {L : Limits} {a b c d e f g h u v w x p q r t a′ b′ c′ d′ e′ f′ g′ h′ u′ v′ w′ x′ p′ q′ r′ t′ : List ℕ} (y : Same a b c d e f g h u v w x p q r t a′ b′ c′ d′ e′ f′ g′ h′ u′ v′ w′ x′ p′ q′ r′ t′) where
+module _ {L : Limits} {a b c d e f g h u v w x p q r t z a′ b′ c′ d′ e′ f′ g′ h′ u′ v′ w′ x′ p′ q′ r′ t′ z′ : List ℕ} (y : Same a b c d e f g h u v w x p q r t z a′ b′ c′ d′ e′ f′ g′ h′ u′ v′ w′ x′ p′ q′ r′ t′ z′) where
   pub same-sized : Sized L b c d e u → Sized L b′ c′ d′ e′ u′
-  same-sized z = record {
-    b-size = omega (arith, z .b-size, y .b-same);
-    c-size = omega (arith, z .c-size, y .c-same);
-    d-size = omega (arith, z .d-size, y .d-same);
-    e-size = omega (arith, z .e-size, y .e-same);
-    u-size = omega (arith, z .u-size, y .u-same);
-    u-narrow = omega (arith, z .u-narrow, y .u-same);
+  same-sized k = record {
+    b-size = omega (arith, k .b-size, y .b-same);
+    c-size = omega (arith, k .c-size, y .c-same);
+    d-size = omega (arith, k .d-size, y .d-same);
+    e-size = omega (arith, k .e-size, y .e-same);
+    u-size = omega (arith, k .u-size, y .u-same);
+    u-narrow = omega (arith, k .u-narrow, y .u-same);
   }
 
-  pub same-tabled : Tabled L f g v w x p q r → Tabled L f′ g′ v′ w′ x′ p′ q′ r′
-  same-tabled z = record {
-    f-lines = omega (arith, z .f-lines, y .f-same);
-    g-lines = omega (arith, z .g-lines, y .g-same);
-    p-lines = omega (arith, z .p-lines, y .p-same);
-    q-lines = omega (arith, z .q-lines, y .q-same);
-    r-lines = omega (arith, z .r-lines, y .r-same);
-    w-as-v = y .w-same ∙ z .w-as-v ∙ sym (y .v-same);
-    w-as-x = y .w-same ∙ z .w-as-x ∙ sym (y .x-same);
+  pub same-tabled : Tabled L f g v w x p q r t → Tabled L f′ g′ v′ w′ x′ p′ q′ r′ t′
+  same-tabled k = record {
+    f-lines = omega (arith, k .f-lines, y .f-same);
+    g-lines = omega (arith, k .g-lines, y .g-same);
+    p-lines = omega (arith, k .p-lines, y .p-same);
+    q-lines = omega (arith, k .q-lines, y .q-same);
+    r-lines = omega (arith, k .r-lines, y .r-same);
+    t-lines = omega (arith, k .t-lines, y .t-same);
+    w-as-v = y .w-same ∙ k .w-as-v ∙ sym (y .v-same);
+    w-as-x = y .w-same ∙ k .w-as-x ∙ sym (y .x-same);
   }
 
-pub record ChainInv (L : Limits) (mode k to : ℕ) (t a : List ℕ) (n j : ℕ) : Type 0 where
+-- n steps from step k on: where their lines go
+pub steps-goes : {R : Reading} → ByLine R → (k n : ℕ) (ls : List (List ℕ)) → Goes (length ls) (length (stepsOf R k n ls)) (stepsFates R k n ls)
+unfolding stepsOf stepsFates
+steps-goes c k zero ls = goes-stay (length ls)
+steps-goes {R} c k (suc n) ls = goes-then (step-goes c ls k) (steps-goes c (suc k) n (stepOf R k ls))
+
+-- the lines are at the front of a, and z has the codes of the text's lines among them
+pub record ChainInv (L : Limits) (mode k to : ℕ) (t a z : List ℕ) (n j : ℕ) : Type 0 where
   pub taken : Within L t
   pub now-lines : List (List ℕ)
   pub between : Between L t now-lines
   pub front : Front a n (unlines now-lines)
   pub so-far : stepsOf (readingOf mode) j (to - j) now-lines ≡ stepsOf (readingOf mode) k (to - k) (splitLines t)
+  pub now-fates : List Fate
+  pub coded : z ≡ codesOf now-fates
+  pub goes : Goes (length (splitLines t)) (length now-lines) now-fates
+  pub so-went : follow now-fates (stepsFates (readingOf mode) j (to - j) now-lines) ≡ stepsFates (readingOf mode) k (to - k) (splitLines t)
 
 pub split-fits : {L : Limits} (t a : List ℕ) → Within L t → byteSize L ≤ length a → length (unlines (splitLines t)) ≤ length a
 split-fits t a h q = omega (arith, split-room t, h .bytes)
 
-pub chain-start : {L : Limits} (mode k to : ℕ) {t a a′ : List ℕ} {n : ℕ} → Within L t → Wrote a 0 (unlines (splitLines t)) a′ n → ChainInv L mode k to t a′ n k
-chain-start mode k to {t} h w = record {
+stay-steps : (mode k n : ℕ) (ls : List (List ℕ)) → follow (staying (length ls) 0) (stepsFates (readingOf mode) k n ls) ≡ stepsFates (readingOf mode) k n ls
+stay-steps mode k n ls =
+    let fs : List Fate = stepsFates (readingOf mode) k n ls in
+    ap (λ (i : ℕ). follow (staying i 0) fs) (sym (steps-goes (mode-by-line mode) k n ls .many)) ∙ stay-follow fs
+
+pub chain-start : {L : Limits} (mode k to : ℕ) (z : List ℕ) {t a a′ z′ : List ℕ} {n : ℕ} → Within L t → Wrote a 0 (unlines (splitLines t)) a′ n → length z ≡ length (splitLines t) → z′ ≡ codesOf (staying (length z) 0) → ChainInv L mode k to t a′ z′ n k
+chain-start mode k to z {t} h w q e = record {
   taken = h;
   now-lines = splitLines t;
   between = between-start t h;
   front = wrote-front w;
   so-far = refl;
+  now-fates = staying (length (splitLines t)) 0;
+  coded = e ∙ ap (λ (i : ℕ). codesOf (staying i 0)) q;
+  goes = goes-stay (length (splitLines t));
+  so-went = stay-steps mode k (to - k) (splitLines t);
 }
 
 steps-more : (R : Reading) (j m : ℕ) (ls : List (List ℕ)) → stepsOf R j (suc m) ls ≡ stepsOf R (suc j) m (stepOf R j ls)
@@ -102,7 +130,21 @@ steps-none : (R : Reading) (j : ℕ) (ls : List (List ℕ)) → stepsOf R j 0 ls
 unfolding stepsOf
 steps-none R j ls = refl
 
-module _ {L : Limits} {mode k to : ℕ} {t a : List ℕ} {n j : ℕ} (h : ChainInv L mode k to t a n j) where
+fates-more : (R : Reading) (j m : ℕ) (ls : List (List ℕ)) → stepsFates R j (suc m) ls ≡ follow (stepFates R j ls) (stepsFates R (suc j) m (stepOf R j ls))
+unfolding stepsFates
+fates-more R j m ls = refl
+
+fates-none : (R : Reading) (j : ℕ) (ls : List (List ℕ)) → stepsFates R j 0 ls ≡ staying (length ls) 0
+unfolding stepsFates
+fates-none R j ls = refl
+
+-- a table of codes through the codes of a step
+step-codes : {R : Reading} → ByLine R → (j : ℕ) (ls : List (List ℕ)) {n : ℕ} {fs : List Fate} → length ls < half → Goes n (length ls) fs → through (codesOf fs) (codesOf (stepFates R j ls)) ≡ codesOf (follow fs (stepFates R j ls))
+step-codes {R} c j ls {n} {fs} h p =
+    let q = step-goes c ls j in
+    through-follow fs (stepFates R j ls) (goes-under p (omega arith)) (goes-under q (omega (arith, tame-step c j .counts ls))) (omega (arith, q .many))
+
+module _ {L : Limits} {mode k to : ℕ} {t a z : List ℕ} {n j : ℕ} (h : ChainInv L mode k to t a z n j) where
   pub chain-room : Bounded L (take n a)
   chain-room = rw (h .front .is) (between-room (h .taken) (h .between))
 
@@ -110,27 +152,45 @@ module _ {L : Limits} {mode k to : ℕ} {t a : List ℕ} {n j : ℕ} (h : ChainI
   pub chain-fits : {b b′ : List ℕ} {r : ℕ} → byteSize L ≤ length a → Wrote b 0 (unlines (stepOf (readingOf mode) j (linesOf (take n a)))) b′ r → length (take r b′) ≤ length a
   chain-fits {b′ = b′} {r = r} l w = omega (arith, length-take r b′, w .place, room-fits (tame-step (mode-by-line mode) j) chain-room)
 
+  lines-at : linesOf (take n a) ≡ h .now-lines
+  lines-at = ap linesOf (h .front .is) ∙ lines-unlines (h .now-lines) (h .between .clean)
+
+  lines-few : length (h .now-lines) < half
+  lines-few = omega (arith, lines-half chain-room, ap length lines-at)
+
   -- a pass from the front of a into b, and what it wrote back to the front of a
-  pub chain-on : {b a′ b′ : List ℕ} {r m : ℕ} → j < to → Wrote b 0 (unlines (stepOf (readingOf mode) j (linesOf (take n a)))) b′ r → Wrote a 0 (take r b′) a′ m → ChainInv L mode k to t a′ m (j + 1)
-  chain-on l w v =
+  pub chain-on : {b a′ b′ z′ : List ℕ} {r m : ℕ} → j < to → Wrote b 0 (unlines (stepOf (readingOf mode) j (linesOf (take n a)))) b′ r → Wrote a 0 (take r b′) a′ m →
+      z′ ≡ through z (codesOf (stepFates (readingOf mode) j (linesOf (take n a)))) → ChainInv L mode k to t a′ z′ m (j + 1)
+  chain-on l w v e =
+      let R : Reading = readingOf mode in
       let f = front-copied (wrote-front w) v in
       let ls : List (List ℕ) = h .now-lines in
-      let g : linesOf (take n a) ≡ ls = ap linesOf (h .front .is) ∙ lines-unlines ls (h .between .clean) in
-      let z : to - j ≡ suc (to - (j + 1)) = omega arith in
+      let fs : List Fate = h .now-fates in
+      let i : ℕ = to - (j + 1) in
+      let y : to - j ≡ suc (to - (j + 1)) = omega arith in
       record {
         taken = h .taken;
-        now-lines = stepOf (readingOf mode) j ls;
+        now-lines = stepOf R j ls;
         between = between-on (tame-step (mode-by-line mode) j) (h .between);
-        front = record { fits = f .fits; is = f .is ∙ ap (λ (ms : List (List ℕ)). unlines (stepOf (readingOf mode) j ms)) g };
-        so-far =
-            ap (λ (i : ℕ). stepsOf (readingOf mode) i (to - (j + 1)) (stepOf (readingOf mode) j ls)) (add-one j)
-            ∙ sym (steps-more (readingOf mode) j (to - (j + 1)) ls)
-            ∙ ap (λ (m : ℕ). stepsOf (readingOf mode) j m ls) (sym z)
-            ∙ h .so-far;
+        front = record { fits = f .fits; is = f .is ∙ ap (λ (ms : List (List ℕ)). unlines (stepOf R j ms)) lines-at };
+        so-far = ap (λ (b : ℕ). stepsOf R b i (stepOf R j ls)) (add-one j) ∙ sym (steps-more R j i ls) ∙ ap (λ (m : ℕ). stepsOf R j m ls) (sym y) ∙ h .so-far;
+        now-fates = follow fs (stepFates R j ls);
+        coded =
+            e ∙ ap (λ (ms : List (List ℕ)). through z (codesOf (stepFates R j ms))) lines-at ∙ ap (λ (x : List ℕ). through x (codesOf (stepFates R j ls))) (h .coded)
+            ∙ step-codes (mode-by-line mode) j ls lines-few (h .goes);
+        goes = goes-then (h .goes) (step-goes (mode-by-line mode) ls j);
+        so-went =
+            ap (λ (b : ℕ). follow (follow fs (stepFates R j ls)) (stepsFates R b i (stepOf R j ls))) (add-one j)
+            ∙ follow-assoc fs (stepFates R j ls) (stepsFates R (suc j) i (stepOf R j ls))
+            ∙ ap (follow fs) (sym (fates-more R j i ls) ∙ ap (λ (m : ℕ). stepsFates R j m ls) (sym y))
+            ∙ h .so-went;
       }
 
-  pub chain-end : to ≤ j → Front a n (unlines (stepsOf (readingOf mode) k (to - k) (splitLines t)))
+  pub chain-end : to ≤ j → Front a n (unlines (stepsOf (readingOf mode) k (to - k) (splitLines t))) × (z ≡ codesOf (stepsFates (readingOf mode) k (to - k) (splitLines t)))
   chain-end l =
-      let z : to - j ≡ 0 = omega arith in
-      let g : h .now-lines ≡ stepsOf (readingOf mode) k (to - k) (splitLines t) = sym (ap (λ (m : ℕ). stepsOf (readingOf mode) j m (h .now-lines)) z ∙ steps-none (readingOf mode) j (h .now-lines)) ∙ h .so-far in
-      record { fits = h .front .fits; is = h .front .is ∙ ap unlines g }
+      let R : Reading = readingOf mode in
+      let y : to - j ≡ 0 = omega arith in
+      let g : h .now-lines ≡ stepsOf R k (to - k) (splitLines t) = sym (ap (λ (m : ℕ). stepsOf R j m (h .now-lines)) y ∙ steps-none R j (h .now-lines)) ∙ h .so-far in
+      let w : stepsFates R j (to - j) (h .now-lines) ≡ staying (length (h .now-lines)) 0 = ap (λ (m : ℕ). stepsFates R j m (h .now-lines)) y ∙ fates-none R j (h .now-lines) in
+      let e : h .now-fates ≡ stepsFates R k (to - k) (splitLines t) = sym (ap (follow (h .now-fates)) w ∙ follow-stay (length (h .now-lines)) (h .now-fates) (h .goes .below)) ∙ h .so-went in
+      (record { fits = h .front .fits; is = h .front .is ∙ ap unlines g }, h .coded ∙ ap codesOf e)

@@ -1,18 +1,37 @@
 -- Laws of zeroing, and of the last step. Assumes nothing.
-use Prim.Native.Nat.{ℕ}
+use Prim.Native.Nat.{ℕ, _-_, _*_, _≤_, _<_, _^_}
 use mathlib.Core.Path.{_≡_, refl, sym, ap, _∙_}
-use mathlib.Core.List.{List}
+use mathlib.Core.Bool.{Bool, true, false, cond}
+use mathlib.Core.List.{List, [], _∷_}
+use native.Mathlib.Omega.{arith}
+use borrow.Author.Tests.{ltb-false}
+use lib.Dec.{ltb}
 use lib.ListN.{length, take, replicate}
 use Rattle.lines.specs.Lf.{endsIn, linesOf, unlines}
 use Rattle.lines.specs.Inner.Out.{Wrote}
 use Rattle.lines.specs.Steps.{splitLines, joined}
 use Rattle.lines.proofs.LfLaws.{lines-unlines}
-use Rattle.lines.proofs.StepLaws.{split-noLf}
+use Rattle.lines.proofs.StepLaws.{split-noLf, split-room}
 use Rattle.slots.proofs.SlotLaws.{wiped-zeros}
+use Rattle.origins.specs.declared.Form.the-variants as form
+use Rattle.origins.specs.declared.Went.{Went}
+use Rattle.origins.specs.Form.{formShape, fileOf}
+use Rattle.origins.specs.Inner.Fates.{Fate, wentsOf}
+use Rattle.origins.specs.Inner.Codes.{half, codesOf}
+use Rattle.origins.specs.Inner.Written.{leftOver, wentsBy}
+use Rattle.origins.proofs.RoundTrip.{file-length}
+use Rattle.origins.proofs.InStep.{in-step}
+use Rattle.limits.specs.declared.Limits.{Limits}
 use Rattle.limits.specs.declared.Answer.{Answer}
-use Rattle.limits.specs.Entry.{roomed, outAfter, blank}
+use Rattle.limits.specs.declared.Answer.the-variants.{Done, ShortResult, ShortRecords}
+use Rattle.limits.specs.Answer.{numberOf, isDone}
+use Rattle.limits.specs.Entry.{recordsNeed, roomed, outAfter, blank}
+use Rattle.limits.specs.Inner.Sane.{Within}
+use Rattle.limits.proofs.AnswerLaws.{out-done}
 use Rattle.steps.proofs.Tame.{Tame}
-use Rattle.passes.specs.Passes.{resultOf}
+use Rattle.steps.proofs.Traces.{lines-most}
+use Rattle.steps.proofs.Goings.{Goes, goes-under}
+use Rattle.passes.specs.Passes.{resultOf, originsOf}
 use Rattle.passes.specs.Inner.Buffers.{Front, Blank, Unused}
 
 -- ---- zeroing
@@ -37,9 +56,9 @@ blank-as qa qb qc qd qe qu w = record {
   u-blank = w .u-blank ∙ ap blank qu;
 }
 
-pub unused-as : {f g h v w x p q r t o f₁ g₁ h₁ v₁ w₁ x₁ p₁ q₁ r₁ t₁ o₁ f′ g′ h′ v′ w′ x′ p′ q′ r′ t′ o′ : List ℕ} → length f₁ ≡ length f → length g₁ ≡ length g → length h₁ ≡ length h → length v₁ ≡ length v → length w₁ ≡ length w → length x₁ ≡ length x → length p₁ ≡ length p → length q₁ ≡ length q → length r₁ ≡ length r → length t₁ ≡ length t → length o₁ ≡ length o →
-    Unused f₁ g₁ h₁ v₁ w₁ x₁ p₁ q₁ r₁ t₁ o₁ f′ g′ h′ v′ w′ x′ p′ q′ r′ t′ o′ → Unused f g h v w x p q r t o f′ g′ h′ v′ w′ x′ p′ q′ r′ t′ o′
-unused-as qf qg qh qv qw qx qp qq qr qt qo w = record {
+pub unused-as : {f g h v w x p q r t o z f₁ g₁ h₁ v₁ w₁ x₁ p₁ q₁ r₁ t₁ o₁ z₁ f′ g′ h′ v′ w′ x′ p′ q′ r′ t′ o′ z′ : List ℕ} → length f₁ ≡ length f → length g₁ ≡ length g → length h₁ ≡ length h → length v₁ ≡ length v → length w₁ ≡ length w → length x₁ ≡ length x → length p₁ ≡ length p → length q₁ ≡ length q → length r₁ ≡ length r → length t₁ ≡ length t → length o₁ ≡ length o → length z₁ ≡ length z →
+    Unused f₁ g₁ h₁ v₁ w₁ x₁ p₁ q₁ r₁ t₁ o₁ z₁ f′ g′ h′ v′ w′ x′ p′ q′ r′ t′ o′ z′ → Unused f g h v w x p q r t o z f′ g′ h′ v′ w′ x′ p′ q′ r′ t′ o′ z′
+unused-as qf qg qh qv qw qx qp qq qr qt qo qz w = record {
   f-unused = w .f-unused ∙ ap blank qf;
   g-unused = w .g-unused ∙ ap blank qg;
   h-unused = w .h-unused ∙ ap blank qh;
@@ -51,20 +70,61 @@ unused-as qf qg qh qv qw qx qp qq qr qt qo w = record {
   r-unused = w .r-unused ∙ ap blank qr;
   t-unused = w .t-unused ∙ ap blank qt;
   o-unused = w .o-unused ∙ ap blank qo;
+  z-unused = w .z-unused ∙ ap blank qz;
 }
+
+-- ---- the records
+
+wents-most : (out ls : List (List ℕ)) (cs : List ℕ) → length (wentsBy out ls cs) ≤ length cs
+unfolding wentsBy
+wents-most out [] cs = omega arith
+wents-most out (l ∷ ls) [] = omega arith
+wents-most out (l ∷ ls) (c ∷ cs) = let h = wents-most (leftOver c out) ls cs in omega arith
+
+-- where the answer is `Done` they have room
+pub records-fit : (y : Answer) (n room k have : ℕ) (out ls : List (List ℕ)) (cs : List ℕ) → y ≡ roomed n room (7 * k) have → numberOf y ≡ 0 → k ≡ length cs → length (fileOf (formShape form.Ol) (wentsBy out ls cs)) ≤ have
+unfolding numberOf
+records-fit y n room k have out ls cs e z q = omega (arith, file-length (formShape form.Ol) (wentsBy out ls cs), wents-most out ls cs, enough (ltb room n) (ltb have (7 * k)) refl (ap numberOf (sym e) ∙ z))
+  where
+    enough : (b d : Bool) → ltb have (7 * k) ≡ d → numberOf (cond b (ShortResult n) (cond d (ShortRecords (7 * k)) (Done n))) ≡ 0 → 7 * k ≤ have
+    enough true d p w = absurd (omega (arith, w))
+    enough false true p w = absurd (omega (arith, w))
+    enough false false p w = ltb-false have (7 * k) p
+
+pub records-done : (y : Answer) {d xs d′ : List ℕ} {r : ℕ} → isDone y ≡ true → Wrote d 0 xs d′ r → d′ ≡ outAfter y xs d
+unfolding outAfter isDone numberOf
+records-done y h w = rw h (out-done w)
 
 -- ---- the last step
 
 -- the lines that passes made of a text stand at the front of a: they are joined to the result
 module _ {f : List (List ℕ) → List (List ℕ)} (t : List ℕ) {a : List ℕ} {n : ℕ} (p : Tame f) (h : Front a n (unlines (f (splitLines t)))) where
+  front-lines : linesOf (take n a) ≡ f (splitLines t)
+  front-lines = ap linesOf (h .is) ∙ lines-unlines (f (splitLines t)) (p .keeps (splitLines t) (split-noLf t))
+
   front-result : joined (endsIn 10 t) (linesOf (take n a)) ≡ resultOf f t
   unfolding resultOf
-  front-result = ap (joined (endsIn 10 t)) (ap linesOf (h .is) ∙ lines-unlines (f (splitLines t)) (p .keeps (splitLines t) (split-noLf t)))
+  front-result = ap (joined (endsIn 10 t)) front-lines
 
   -- r is the answer, and d the result buffer
   module _ (r : Answer) (d : List ℕ) where
-    pub front-answer : r ≡ roomed (length (joined (endsIn 10 t) (linesOf (take n a)))) (length d) → r ≡ roomed (length (resultOf f t)) (length d)
-    front-answer e = e ∙ ap (λ (x : List ℕ). roomed (length x) (length d)) front-result
+    pub front-answer : (k have : ℕ) → k ≡ length (splitLines t) → r ≡ roomed (length (joined (endsIn 10 t) (linesOf (take n a)))) (length d) (7 * k) have → r ≡ roomed (length (resultOf f t)) (length d) (recordsNeed t) have
+    front-answer k have q e = e ∙ ap (λ (x : List ℕ). roomed (length x) (length d) (7 * k) have) front-result ∙ ap (λ (i : ℕ). roomed (length (resultOf f t)) (length d) (7 * i) have) q
 
     pub front-out : {d′ : List ℕ} → d′ ≡ outAfter r (joined (endsIn 10 t) (linesOf (take n a))) d → d′ ≡ outAfter r (resultOf f t) d
     front-out e = e ∙ ap (λ (x : List ℕ). outAfter r x d) front-result
+
+    -- d is the buffer for records, and cs are the codes of the text's lines
+    pub front-records : (fates : List (List ℕ) → List Fate) {cs d′ : List ℕ} → Goes (length (splitLines t)) (length (f (splitLines t))) (fates (splitLines t)) → length (splitLines t) < half - 1 → cs ≡ codesOf (fates (splitLines t)) →
+        d′ ≡ outAfter r (fileOf (formShape form.Ol) (wentsBy (linesOf (take n a)) (splitLines t) cs)) d → d′ ≡ outAfter r (originsOf f fates t) d
+    unfolding originsOf
+    front-records fates {cs} g k e q =
+        let ls : List (List ℕ) = splitLines t in
+        let w : wentsBy (linesOf (take n a)) ls cs ≡ wentsOf (f ls) ls (fates ls) =
+        ap (λ (out : List (List ℕ)). wentsBy out ls cs) front-lines ∙ ap (wentsBy (f ls) ls) e ∙ in-step (f ls) ls (fates ls) (length (f ls)) 0 (goes-under g (omega (arith, p .counts ls))) (g .each) in
+        q ∙ ap (λ (ws : List Went). outAfter r (fileOf (formShape form.Ol) ws) d) w
+
+-- ---- a text within limits has few lines
+
+pub text-lines : {L : Limits} (t : List ℕ) → Within L t → length (splitLines t) < 2 ^ 32
+text-lines t h = omega (arith, lines-most (splitLines t), split-room t, h .bytes, h .sane .bytes-reach)

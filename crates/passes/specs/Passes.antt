@@ -1,10 +1,17 @@
--- `optimize` around its passes: the text is split, its lines go through, and they are joined. Assumes nothing.
+-- `optimize` around its passes: the text is split, its lines go through, and they are joined; and the records that say where each line went. Assumes nothing.
 use Prim.Native.Nat.{ℕ}
 use Prim.Native.Char.{code}
 use mathlib.Core.List.{List}
 use Rattle.lines.specs.Lf.{endsIn}
 use Rattle.lines.specs.Steps.{splitLines, joined}
+use Rattle.origins.specs.declared.Form.the-variants as form
+use Rattle.origins.specs.Form.{formShape, fileOf}
+use Rattle.origins.specs.Inner.Fates.{Fate, wentsOf}
 
 -- the text that a text becomes, where its lines become others
 unfoldable pub resultOf : (List (List ℕ) → List (List ℕ)) → List ℕ → List ℕ
 resultOf f t = joined (endsIn (code "\n") t) (f (splitLines t))
+
+-- request 1: the records of a text, one for each line, where its lines become others by f and go where `fates` says
+unfoldable pub originsOf : (List (List ℕ) → List (List ℕ)) → (List (List ℕ) → List Fate) → List ℕ → List ℕ
+originsOf f fates t = fileOf (formShape form.Ol) (wentsOf (f (splitLines t)) (splitLines t) (fates (splitLines t)))

@@ -1,17 +1,25 @@
 // The passes one after the other, over work buffers of the stated sizes.
 ghost use mathlib.Core.Path.{_≡_};
-ghost use Prim.Native.Nat.{_≤_, _-_};
+ghost use Prim.Native.Nat.{_≤_, _<_, _-_, _*_, _^_};
 ghost use lib.ListN.{length, take};
 ghost use Rattle.lines.specs.Lf.{endsIn, linesOf, unlines};
 ghost use Rattle.lines.specs.Steps.{splitLines, joined};
+ghost use Rattle.origins.specs.declared.Form.the-variants as form;
+ghost use Rattle.origins.specs.Form.{formShape, fileOf};
+ghost use Rattle.origins.specs.Inner.Codes.{codesOf};
+ghost use Rattle.origins.specs.Inner.Written.{wentsBy};
 ghost use Rattle.reading.specs.Reading.{readingOf};
-ghost use Rattle.limits.specs.Entry.{byteSize, roomed, outAfter};
+ghost use Rattle.limits.specs.Entry.{byteSize, recordsNeed, roomed, outAfter};
 ghost use Rattle.limits.specs.Inner.Sane.{Within};
 ghost use Rattle.steps.specs.Inner.Bounds.{Sized, Tabled};
-ghost use Rattle.passes.specs.Passes.{resultOf};
-ghost use Rattle.passes.specs.Inner.Passes.{stepsOf};
+ghost use Rattle.passes.specs.Passes.{resultOf, originsOf};
+ghost use Rattle.passes.specs.Inner.Passes.{stepsOf, stepsFates};
 ghost use Rattle.passes.specs.Inner.Buffers.{Front, Blank, Unused};
 use limits::Task;
+use origins::Form;
+
+// How many bytes the record of a line takes.
+const RECORD: usize = 7;
 
 // The first `n` owners, where there are so many.
 fn front(own: &[usize], n: usize) -> &[usize] {
@@ -22,7 +30,7 @@ fn front(own: &[usize], n: usize) -> &[usize] {
 }
 
 // Writes the lines of a text into a buffer, runs the passes of a task over them, and returns how many bytes they are then. `own` gets the numbers
-// that have no place of their own in the tables over registers.
+// that have no place of their own in the tables over registers, and `table` the codes of the lines of the text: where each one is in the end.
 fn chain(
     m: Task,
     text: &[u8],
@@ -43,12 +51,15 @@ fn chain(
     r: &mut [usize],
     t: &mut [usize],
     own: &mut [usize],
+    table: &mut [usize],
 ) -> usize
     requires { ⌜ Within (m .limits) (now text) × ((byteSize (m .limits) ≤ length (now a))
-        × (Sized (m .limits) (now b) (now c) (now d) (now e) (now u) × Tabled (m .limits) (now f) (now g) (now v) (now w) (now x) (now p) (now q) (now r))) ⌝ }
-    ensures { λ r. ⌜ Front (now (a .exit)) r (unlines (stepsOf (readingOf (m .mode .0)) (m .from) (m .to - m .from) (splitLines (now (text .entry))))) ⌝ }
+        × (Sized (m .limits) (now b) (now c) (now d) (now e) (now u) × (Tabled (m .limits) (now f) (now g) (now v) (now w) (now x) (now p) (now q) (now r) (now t) × (length (now table) ≡ length (splitLines (now text)))))) ⌝ }
+    ensures answer { λ r. ⌜ Front (now (a .exit)) r (unlines (stepsOf (readingOf (m .mode .0)) (m .from) (m .to - m .from) (splitLines (now (text .entry))))) ⌝ }
+    ensures origins { λ _. ⌜ now (table .exit) ≡ codesOf (stepsFates (readingOf (m .mode .0)) (m .from) (m .to - m .from) (splitLines (now (text .entry)))) ⌝ }
 {
     let mut n = lines::split_lines(text, a);
+    origins::start(table);
     let low = slots::low_of(r.len(), own.len());
     slots::wipe(own);
     let high = slots::gather::gather(&a[..n], low, own);
@@ -75,6 +86,7 @@ fn chain(
             q,
             r,
             t,
+            table,
         );
         n = lines::put(a, 0, &b[..k]);
         j += 1;
@@ -107,8 +119,9 @@ fn wipe_tables(
     r: &mut [usize],
     t: &mut [usize],
     own: &mut [usize],
+    table: &mut [usize],
 )
-    ensures { λ _. ⌜ Unused (now (f .entry)) (now (g .entry)) (now (h .entry)) (now (v .entry)) (now (w .entry)) (now (x .entry)) (now (p .entry)) (now (q .entry)) (now (r .entry)) (now (t .entry)) (now (own .entry)) (now (f .exit)) (now (g .exit)) (now (h .exit)) (now (v .exit)) (now (w .exit)) (now (x .exit)) (now (p .exit)) (now (q .exit)) (now (r .exit)) (now (t .exit)) (now (own .exit)) ⌝ }
+    ensures { λ _. ⌜ Unused (now (f .entry)) (now (g .entry)) (now (h .entry)) (now (v .entry)) (now (w .entry)) (now (x .entry)) (now (p .entry)) (now (q .entry)) (now (r .entry)) (now (t .entry)) (now (own .entry)) (now (table .entry)) (now (f .exit)) (now (g .exit)) (now (h .exit)) (now (v .exit)) (now (w .exit)) (now (x .exit)) (now (p .exit)) (now (q .exit)) (now (r .exit)) (now (t .exit)) (now (own .exit)) (now (table .exit)) ⌝ }
 {
     lines::wipe(f, f.len());
     lines::wipe(g, g.len());
@@ -121,13 +134,37 @@ fn wipe_tables(
     slots::wipe(r);
     slots::wipe(t);
     slots::wipe(own);
+    slots::wipe(table);
 }
 
-// Joins the lines in the first `n` bytes of a buffer into the result buffer, with a last LF where the text has one, and makes every work
-// buffer 0.
+// Joins lines into the result buffer, with a last LF where the text has one, and writes the records of the text's lines by their codes, where both
+// have room.
+fn put_all(
+    lf: &[u8],
+    text: &[u8],
+    table: &[usize],
+    out: &mut [u8],
+    orig: &mut [u8],
+) -> limits::Answer
+    requires { ⌜ length (now table) < 2 ^ 32 ⌝ }
+    ensures answer { λ r. ⌜ r ≡ roomed (length (joined (endsIn 10 (now (text .entry))) (linesOf (now (lf .entry))))) (length (now (out .entry))) (7 * length (now (table .entry))) (length (now (orig .entry))) ⌝ }
+    ensures result { λ r. ⌜ now (out .exit) ≡ outAfter r (joined (endsIn 10 (now (text .entry))) (linesOf (now (lf .entry)))) (now (out .entry)) ⌝ }
+    ensures records { λ r. ⌜ now (orig .exit) ≡ outAfter r (fileOf (formShape form.Ol) (wentsBy (linesOf (now (lf .entry))) (splitLines (now (text .entry))) (now (table .entry)))) (now (orig .entry)) ⌝ }
+{
+    let ended = lines::ends_lf(text);
+    let need = RECORD * table.len();
+    let r = limits::finish(lf, ended, need, orig.len(), out);
+    if limits::number_of(r) == 0 {
+        origins::put_records(Form::Ol, text, lf, table, orig);
+    }
+    r
+}
+
+// Puts out the lines in the first `n` bytes of a buffer and the records, and makes every work buffer 0.
 fn close(
     n: usize,
     text: &[u8],
+    table: &[usize],
     a: &mut [u8],
     b: &mut [u8],
     c: &mut [u8],
@@ -135,14 +172,15 @@ fn close(
     e: &mut [u8],
     u: &mut [u32],
     out: &mut [u8],
+    orig: &mut [u8],
 ) -> limits::Answer
-    requires { ⌜ n ≤ length (now a) ⌝ }
-    ensures answer { λ r. ⌜ r ≡ roomed (length (joined (endsIn 10 (now (text .entry))) (linesOf (take n (now (a .entry)))))) (length (now (out .entry))) ⌝ }
+    requires { ⌜ (n ≤ length (now a)) × (length (now table) < 2 ^ 32) ⌝ }
+    ensures answer { λ r. ⌜ r ≡ roomed (length (joined (endsIn 10 (now (text .entry))) (linesOf (take n (now (a .entry)))))) (length (now (out .entry))) (7 * length (now (table .entry))) (length (now (orig .entry))) ⌝ }
     ensures memory { λ r. ⌜ (now (out .exit) ≡ outAfter r (joined (endsIn 10 (now (text .entry))) (linesOf (take n (now (a .entry))))) (now (out .entry)))
         × Blank (now (a .entry)) (now (b .entry)) (now (c .entry)) (now (d .entry)) (now (e .entry)) (now (u .entry)) (now (a .exit)) (now (b .exit)) (now (c .exit)) (now (d .exit)) (now (e .exit)) (now (u .exit)) ⌝ }
+    ensures records { λ r. ⌜ now (orig .exit) ≡ outAfter r (fileOf (formShape form.Ol) (wentsBy (linesOf (take n (now (a .entry)))) (splitLines (now (text .entry))) (now (table .entry)))) (now (orig .entry)) ⌝ }
 {
-    let ended = lines::ends_lf(text);
-    let r = limits::finish(&a[..n], ended, out);
+    let r = put_all(&a[..n], text, table, out, orig);
     wipe_all(a, b, c, d, e, u);
     r
 }
@@ -168,16 +206,42 @@ pub fn work(
     r: &mut [usize],
     t: &mut [usize],
     own: &mut [usize],
+    table: &mut [usize],
     out: &mut [u8],
+    orig: &mut [u8],
 ) -> limits::Answer
     requires { ⌜ Within (m .limits) (now text) × ((byteSize (m .limits) ≤ length (now a))
-        × (Sized (m .limits) (now b) (now c) (now d) (now e) (now u) × Tabled (m .limits) (now f) (now g) (now v) (now w) (now x) (now p) (now q) (now r))) ⌝ }
-    ensures answer { λ r. ⌜ r ≡ roomed (length (resultOf (stepsOf (readingOf (m .mode .0)) (m .from) (m .to - m .from)) (now (text .entry)))) (length (now (out .entry))) ⌝ }
+        × (Sized (m .limits) (now b) (now c) (now d) (now e) (now u) × (Tabled (m .limits) (now f) (now g) (now v) (now w) (now x) (now p) (now q) (now r) (now t) × (m .limits .lines ≤ length (now table))))) ⌝ }
+    ensures answer { λ r. ⌜ r ≡ roomed (length (resultOf (stepsOf (readingOf (m .mode .0)) (m .from) (m .to - m .from)) (now (text .entry)))) (length (now (out .entry))) (recordsNeed (now (text .entry))) (length (now (orig .entry))) ⌝ }
     ensures memory { λ r. ⌜ (now (out .exit) ≡ outAfter r (resultOf (stepsOf (readingOf (m .mode .0)) (m .from) (m .to - m .from)) (now (text .entry))) (now (out .entry)))
         × Blank (now (a .entry)) (now (b .entry)) (now (c .entry)) (now (d .entry)) (now (e .entry)) (now (u .entry)) (now (a .exit)) (now (b .exit)) (now (c .exit)) (now (d .exit)) (now (e .exit)) (now (u .exit)) ⌝ }
-    ensures tables { λ _. ⌜ Unused (now (f .entry)) (now (g .entry)) (now (h .entry)) (now (v .entry)) (now (w .entry)) (now (x .entry)) (now (p .entry)) (now (q .entry)) (now (r .entry)) (now (t .entry)) (now (own .entry)) (now (f .exit)) (now (g .exit)) (now (h .exit)) (now (v .exit)) (now (w .exit)) (now (x .exit)) (now (p .exit)) (now (q .exit)) (now (r .exit)) (now (t .exit)) (now (own .exit)) ⌝ }
+    ensures records { λ r. ⌜ now (orig .exit) ≡ outAfter r (originsOf (stepsOf (readingOf (m .mode .0)) (m .from) (m .to - m .from)) (stepsFates (readingOf (m .mode .0)) (m .from) (m .to - m .from)) (now (text .entry))) (now (orig .entry)) ⌝ }
+    ensures tables { λ _. ⌜ Unused (now (f .entry)) (now (g .entry)) (now (h .entry)) (now (v .entry)) (now (w .entry)) (now (x .entry)) (now (p .entry)) (now (q .entry)) (now (r .entry)) (now (t .entry)) (now (own .entry)) (now (table .entry)) (now (f .exit)) (now (g .exit)) (now (h .exit)) (now (v .exit)) (now (w .exit)) (now (x .exit)) (now (p .exit)) (now (q .exit)) (now (r .exit)) (now (t .exit)) (now (own .exit)) (now (table .exit)) ⌝ }
 {
-    let n = chain(m, text, a, b, c, d, e, f, g, h, u, v, w, x, p, q, r, t, own);
-    wipe_tables(f, g, h, v, w, x, p, q, r, t, own);
-    close(n, text, a, b, c, d, e, u, out)
+    let k = lines::count_lines(text);
+    let n = chain(
+        m,
+        text,
+        a,
+        b,
+        c,
+        d,
+        e,
+        f,
+        g,
+        h,
+        u,
+        v,
+        w,
+        x,
+        p,
+        q,
+        r,
+        t,
+        own,
+        &mut table[..k],
+    );
+    let y = close(n, text, &table[..k], a, b, c, d, e, u, out, orig);
+    wipe_tables(f, g, h, v, w, x, p, q, r, t, own, table);
+    y
 }

@@ -7,7 +7,7 @@ use native.Mathlib.Omega.{arith}
 use lib.ListN.{length, take, drop}
 use Rattle.lines.specs.Lf.{upTo, linesOf, partsOf, unlines, same, all}
 use Rattle.lines.specs.Inner.Lf.{lacks, noLf}
-use Rattle.lines.specs.Acts.{Act, keep, become, into, gone, act, apply}
+use Rattle.lines.specs.Acts.{keep, become, into, gone, act, apply}
 use Rattle.lines.proofs.Tests.{no, and-left, and-right, and-both}
 use Rattle.lines.proofs.LfLaws.{lines-noLf, lines-unlines, lacks-append, lacks-take, lacks-drop, parts-noLf}
 use Rattle.lines.proofs.ActLaws.{actNoLf, apply-noLf, apply-length}
@@ -17,6 +17,8 @@ use Rattle.names.specs.Inner.Names.{zeros}
 use Rattle.names.proofs.Decimal.{prints-not}
 use Rattle.parse.specs.Parse.{bodyOf}
 use Rattle.lexical.specs.Phi.{phiRhsPure}
+use Rattle.origins.proofs.Notes.{plainly}
+use Rattle.decls.proofs.Moves.{decl-plain}
 use Rattle.decls.specs.Decls.{declAct}
 use Rattle.decls.specs.Inner.Print.{one, kept}
 use Rattle.decls.proofs.Keeps.{lacks-trim, lacks-body, kept-noLf, decl-noLf}
@@ -147,26 +149,15 @@ pub keep-other : (R : Reading) (ls : List (List ℕ)) (l : List ℕ) → phiDead
 unfolding phiAct
 keep-other R ls l a b = rw (a, b)
 
--- no line's value goes into another line
-abbrev pub moves : Act → Bool
-moves keep = false
-moves (become x) = false
-moves (into n) = true
-moves gone = false
-
-decl-stays : (indent : List ℕ) (xs : List (List ℕ)) → moves (declAct indent xs) ≡ false
-unfolding declAct
-decl-stays indent [] = refl
-decl-stays indent (x ∷ xs) = refl
-
-pub none-into : (R : Reading) (ls : List (List ℕ)) (l : List ℕ) → moves (phiAct R ls l) ≡ false
+-- a line stays, becomes another or is gone: no value goes into another line
+pub none-into : (R : Reading) (ls : List (List ℕ)) (l : List ℕ) → plainly (phiAct R ls l) ≡ true
 unfolding phiAct
 none-into R ls l = go (phiDead (phiStore (trimStart l)) ls) (phiDecl (trimStart l)) (pureIn R (rightOf (trimStart l)) || phiRhsPure (rightOf (trimStart l)))
   where
-    go : (a b v : Bool) → moves (cond a (cond v gone (become (take (fromOf l) l ++ rightOf (trimStart l) ++ 59 ∷ []))) (cond b (declAct (take (fromOf l) l) (livePhis ls (partsOf 44 (bodyOf (trimStart l))))) keep)) ≡ false
+    go : (a b v : Bool) → plainly (cond a (cond v gone (become (take (fromOf l) l ++ rightOf (trimStart l) ++ 59 ∷ []))) (cond b (declAct (take (fromOf l) l) (livePhis ls (partsOf 44 (bodyOf (trimStart l))))) keep)) ≡ true
     go true b true = refl
     go true b false = refl
-    go false true v = decl-stays (take (fromOf l) l) (livePhis ls (partsOf 44 (bodyOf (trimStart l))))
+    go false true v = decl-plain (take (fromOf l) l) (livePhis ls (partsOf 44 (bodyOf (trimStart l))))
     go false false v = refl
 
 -- where no phi is dead, nothing changes

@@ -9,3 +9,4 @@ pub mod Whole
 pub mod Rounds
 pub mod Room
 pub mod Examples
+pub mod Moves

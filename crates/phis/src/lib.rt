@@ -15,7 +15,10 @@ ghost use Rattle.lexical.specs.Phi.{phiRhsPure};
 ghost use Rattle.decls.specs.Inner.Print.{kept, declText};
 ghost use Rattle.reading.specs.Reading.{readingOf, pureIn};
 ghost use Rattle.reading.specs.Assign.{isAssign, rightOf};
-ghost use Rattle.phis.specs.Phis.{isPhi, allPhis, phiDecl, anyPhi, phiStore, phiOwn, phiReads, phiRead, phiStored, deadPhi, phiDead, anyDead, round, pruneDeadPhis};
+ghost use Rattle.origins.specs.Inner.Codes.{movesOf, standing};
+ghost use Rattle.origins.specs.Inner.Thin.{thin};
+ghost use Rattle.phis.specs.Phis.{isPhi, allPhis, phiDecl, anyPhi, phiStore, phiOwn, phiReads, phiRead, phiStored, deadPhi, phiDead, anyDead, roundActs, round, pruneDeadPhis};
+ghost use Rattle.phis.specs.Inner.Moves.{pruneDeadPhisActs};
 ghost use Rattle.phis.specs.Inner.Table.{Tells};
 ghost use Rattle.phis.specs.Inner.Rounds.{live, storeText, changeText, longest};
 
@@ -368,7 +371,7 @@ struct Round {
     dead: bool,
 }
 
-// Writes one round, with its table. Of the scratch only as much is used as the text is long.
+// Writes one round, with its table; `moves` goes on for the lines that stand. Of the scratch only as much is used as the text is long.
 fn put_with(
     mode: reading::Mode,
     text: &[u8],
@@ -376,11 +379,13 @@ fn put_with(
     table: &[u8],
     scratch: &mut [u8],
     out: &mut [u8],
+    moves: &mut [usize],
 ) -> Round
-    requires { ⌜ (Tells (now own) (linesOf (now text)) (now table)) × ((length (now text) ≤ length (now scratch)) × (length (unlines (round (readingOf (mode .0)) (linesOf (now text)))) ≤ length (now out))) ⌝ }
+    requires { ⌜ (Tells (now own) (linesOf (now text)) (now table)) × ((length (now text) ≤ length (now scratch)) × ((length (unlines (round (readingOf (mode .0)) (linesOf (now text)))) ≤ length (now out)) × (length (linesOf (now text)) ≤ standing (now moves)))) ⌝ }
     ensures answer { λ r. ⌜ Wrote (now (out .entry)) 0 (unlines (round (readingOf (mode .0)) (linesOf (now (text .entry))))) (now (out .exit)) (r .end) ⌝ }
     ensures found { λ r. ⌜ r .dead ≡ anyDead (linesOf (now (text .entry))) (linesOf (now (text .entry))) ⌝ }
     ensures memory { λ _. ⌜ drop (length (now (text .entry))) (now (scratch .exit)) ≡ drop (length (now (text .entry))) (now (scratch .entry)) ⌝ }
+    ensures moves { λ _. ⌜ now (moves .exit) ≡ thin (now (moves .entry)) (movesOf (roundActs (readingOf (mode .0)) (linesOf (now (text .entry))))) ⌝ }
 {
     if !any_dead(text, own, table) {
         let p = lines::put_lines(text, out, 0);
@@ -391,9 +396,10 @@ fn put_with(
     }
     let mut i = 0;
     let mut o = 0;
+    let mut k = 0;
     while i < text.len() {
         let e = lines::find_byte(text, i, 10);
-        o = put_line(
+        let p = put_line(
             mode,
             lines::cut(text, i, e),
             text,
@@ -403,6 +409,8 @@ fn put_with(
             out,
             o,
         );
+        k = origins::note_next(moves, k, o, p);
+        o = p;
         i = lines::after(text, e);
     }
     Round { end: o, dead: true }
@@ -418,7 +426,8 @@ fn may_change(text: &[u8], dead: bool) -> bool
     false
 }
 
-// Writes one round; `dead` is false where it is known that no phi is dead. Of the scratch only as much is used as the text is long.
+// Writes one round; `dead` is false where it is known that no phi is dead. `moves` goes on for the lines that stand. Of the scratch only
+// as much is used as the text is long.
 fn put_round(
     mode: reading::Mode,
     text: &[u8],
@@ -427,12 +436,14 @@ fn put_round(
     table: &mut [u8],
     scratch: &mut [u8],
     out: &mut [u8],
+    moves: &mut [usize],
 ) -> Round
     requires { ⌜ (dead ≡ false → anyDead (linesOf (now text)) (linesOf (now text)) ≡ false)
-        × ((length (now text) ≤ length (now scratch)) × (length (unlines (round (readingOf (mode .0)) (linesOf (now text)))) ≤ length (now out))) ⌝ }
+        × ((length (now text) ≤ length (now scratch)) × ((length (unlines (round (readingOf (mode .0)) (linesOf (now text)))) ≤ length (now out)) × (length (linesOf (now text)) ≤ standing (now moves)))) ⌝ }
     ensures answer { λ r. ⌜ Wrote (now (out .entry)) 0 (unlines (round (readingOf (mode .0)) (linesOf (now (text .entry))))) (now (out .exit)) (r .end) ⌝ }
     ensures found { λ r. ⌜ r .dead ≡ anyDead (linesOf (now (text .entry))) (linesOf (now (text .entry))) ⌝ }
     ensures memory { λ _. ⌜ drop (length (now (text .entry))) (now (scratch .exit)) ≡ drop (length (now (text .entry))) (now (scratch .entry)) ⌝ }
+    ensures moves { λ _. ⌜ now (moves .exit) ≡ thin (now (moves .entry)) (movesOf (roundActs (readingOf (mode .0)) (linesOf (now (text .entry))))) ⌝ }
 {
     if !may_change(text, dead) {
         let p = lines::put_lines(text, out, 0);
@@ -443,7 +454,7 @@ fn put_round(
     }
     lines::wipe(table, table.len());
     table::note_lines(text, own, table);
-    put_with(mode, text, own, table, scratch, out)
+    put_with(mode, text, own, table, scratch, out, moves)
 }
 
 // The larger of two numbers.
@@ -458,7 +469,7 @@ fn larger(a: usize, b: usize) -> usize
 
 // Stores of phis that nothing reads go, and their names leave the declarations, in three rounds: from the text to `first`, from there to
 // `second`, from there to `out`. `own` has the owners of places in the table of phis, which is 0 afterwards. The scratch is left with zeros, as far
-// as it was of use.
+// as it was of use; `moves` gets the move of each line.
 pub fn prune_dead_phis(
     mode: reading::Mode,
     text: &[u8],
@@ -468,15 +479,18 @@ pub fn prune_dead_phis(
     first: &mut [u8],
     second: &mut [u8],
     out: &mut [u8],
+    moves: &mut [usize],
 ) -> usize
-    requires { ⌜ (longest (readingOf (mode .0)) (now text) ≤ length (now scratch)) × ((length (unlines (round (readingOf (mode .0)) (linesOf (now text)))) ≤ length (now first)) × ((length (unlines (round (readingOf (mode .0)) (round (readingOf (mode .0)) (linesOf (now text))))) ≤ length (now second)) × (length (unlines (pruneDeadPhis (readingOf (mode .0)) (linesOf (now text)))) ≤ length (now out)))) ⌝ }
+    requires { ⌜ (longest (readingOf (mode .0)) (now text) ≤ length (now scratch)) × ((length (unlines (round (readingOf (mode .0)) (linesOf (now text)))) ≤ length (now first)) × ((length (unlines (round (readingOf (mode .0)) (round (readingOf (mode .0)) (linesOf (now text))))) ≤ length (now second)) × ((length (unlines (pruneDeadPhis (readingOf (mode .0)) (linesOf (now text)))) ≤ length (now out)) × (length (linesOf (now text)) ≤ length (now moves))))) ⌝ }
     ensures answer { λ r. ⌜ Wrote (now (out .entry)) 0 (unlines (pruneDeadPhis (readingOf (mode .0)) (linesOf (now (text .entry))))) (now (out .exit)) r ⌝ }
     ensures one { λ _. ⌜ Wrote (now (first .entry)) 0 (unlines (round (readingOf (mode .0)) (linesOf (now (text .entry))))) (now (first .exit)) (length (unlines (round (readingOf (mode .0)) (linesOf (now (text .entry)))))) ⌝ }
     ensures two { λ _. ⌜ Wrote (now (second .entry)) 0 (unlines (round (readingOf (mode .0)) (round (readingOf (mode .0)) (linesOf (now (text .entry)))))) (now (second .exit)) (length (unlines (round (readingOf (mode .0)) (round (readingOf (mode .0)) (linesOf (now (text .entry))))))) ⌝ }
     ensures memory { λ _. ⌜ Wrote (now (scratch .entry)) 0 (replicate (longest (readingOf (mode .0)) (now (text .entry))) 0) (now (scratch .exit)) (longest (readingOf (mode .0)) (now (text .entry))) ⌝ }
     ensures noted { λ _. ⌜ now (table .exit) ≡ replicate (length (now (table .entry))) 0 ⌝ }
+    ensures moves { λ _. ⌜ Wrote (now (moves .entry)) 0 (movesOf (pruneDeadPhisActs (readingOf (mode .0)) (linesOf (now (text .entry))))) (now (moves .exit)) (length (linesOf (now (text .entry)))) ⌝ }
 {
-    let a = put_round(mode, text, own, true, table, scratch, first);
+    origins::stay_lines(text, moves, 0);
+    let a = put_round(mode, text, own, true, table, scratch, first, moves);
     let b = put_round(
         mode,
         lines::cut(first, 0, a.end),
@@ -485,6 +499,7 @@ pub fn prune_dead_phis(
         table,
         scratch,
         second,
+        moves,
     );
     let c = put_round(
         mode,
@@ -494,6 +509,7 @@ pub fn prune_dead_phis(
         table,
         scratch,
         out,
+        moves,
     );
     lines::wipe(table, table.len());
     lines::wipe(scratch, larger(text.len(), larger(a.end, b.end)));

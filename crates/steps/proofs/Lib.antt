@@ -1,2 +1,4 @@
 pub mod Tame
 pub mod StepLaws
+pub mod Traces
+pub mod Goings

@@ -173,10 +173,10 @@ module _ {mode : ℕ} {s c d e u f g h v w x p q r : List ℕ} where
     },
   )
 
-  pub leaves-few : {k : ℕ} {c′ d′ e′ f′ g′ q′ r′ : List ℕ} → (k ≡ 2 → ⊥) → (k ≡ 4 → ⊥) → (k ≡ 6 → ⊥) → Few mode k s c d e f g q r c′ d′ e′ f′ g′ q′ r′ →
-      Leaves mode k s c d e u f g h v w x p q r c′ d′ e′ u f′ g′ h v w x p q′ r′
+  pub leaves-few : {k : ℕ} {c′ d′ e′ f′ g′ p′ q′ r′ : List ℕ} → (k ≡ 2 → ⊥) → (k ≡ 4 → ⊥) → (k ≡ 6 → ⊥) → Few mode k s c d e f g q r c′ d′ e′ f′ g′ q′ r′ → p′ ≡ replicate (length p) 0 →
+      Leaves mode k s c d e u f g h v w x p q r c′ d′ e′ u f′ g′ h v w x p′ q′ r′
   unfolding leftU cleared
-  leaves-few {k} n2 n4 n6 y = (
+  leaves-few {k} n2 n4 n6 y z = (
     record { c-left = y .c-left; d-left = y .d-left; e-left = y .e-left; u-left = rw (ne-eqb k 2 n2, ne-eqb k 4 n4, ne-eqb k 6 n6) },
     record {
       f-left = y .f-left;
@@ -185,7 +185,7 @@ module _ {mode : ℕ} {s c d e u f g h v w x p q r : List ℕ} where
       v-left = rw (ne-eqb k 2 n2, ne-eqb k 4 n4);
       w-left = rw (ne-eqb k 2 n2, ne-eqb k 4 n4);
       x-left = rw (ne-eqb k 2 n2, ne-eqb k 4 n4);
-      p-left = rw (ne-eqb k 2 n2, ne-eqb k 4 n4, ne-eqb k 6 n6);
+      p-left = z;
       q-left = y .q-left;
       r-left = y .r-left;
     },
@@ -195,14 +195,18 @@ module _ {mode : ℕ} {s c d e u f g h v w x p q r : List ℕ} where
   pub leaves-as : {k j : ℕ} {c′ d′ e′ u′ f′ g′ h′ v′ w′ x′ p′ q′ r′ : List ℕ} → k ≡ j → Leaves mode j s c d e u f g h v w x p q r c′ d′ e′ u′ f′ g′ h′ v′ w′ x′ p′ q′ r′ → Leaves mode k s c d e u f g h v w x p q r c′ d′ e′ u′ f′ g′ h′ v′ w′ x′ p′ q′ r′
   leaves-as z y = rw z y
 
--- the table that pass 6 alone has
-pub last-used : {k : ℕ} (t : List ℕ) {t′ : List ℕ} → k ≡ 6 → t′ ≡ replicate (length t) 0 → t′ ≡ cleared (usesT k) t
+-- the table that passes 2 and 6 alone have
+pub last-two : {k : ℕ} (t : List ℕ) {t′ : List ℕ} → k ≡ 2 → t′ ≡ replicate (length t) 0 → t′ ≡ cleared (usesT k) t
 unfolding cleared
-last-used {k} t e z = rw (eq-eqb k 6 e) z
+last-two {k} t e z = rw e z
 
-pub last-kept : {k : ℕ} (t : List ℕ) → (k ≡ 6 → ⊥) → t ≡ cleared (usesT k) t
+pub last-six : {k : ℕ} (t : List ℕ) {t′ : List ℕ} → k ≡ 6 → t′ ≡ replicate (length t) 0 → t′ ≡ cleared (usesT k) t
 unfolding cleared
-last-kept {k} t n = rw (ne-eqb k 6 n)
+last-six {k} t e z = rw e z
+
+pub last-kept : {k : ℕ} (t : List ℕ) → (k ≡ 2 → ⊥) → (k ≡ 6 → ⊥) → t ≡ cleared (usesT k) t
+unfolding cleared
+last-kept {k} t n2 n6 = rw (ne-eqb k 2 n2, ne-eqb k 6 n6)
 
 -- by what the passes with tables ensure
 pub temps-left : (mode : ℕ) (s c : List ℕ) {c′ : List ℕ} → c′ ≡ tempScratch (strictAt mode) (linesOf s) c → c′ ≡ leftC mode 1 s c

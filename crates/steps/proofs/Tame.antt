@@ -127,17 +127,17 @@ room-length {s = s} r = omega (arith, room-lines r, ap length (lines-text s), le
 
 -- ---- the room that passes with tables and scratch ask for
 
-pub once-room : (R : Reading) {L : Limits} {s : List ℕ} {loops marks paths up scratch mid out near far stores : ℕ} → Bounded L s →
+pub once-room : (R : Reading) {L : Limits} {s : List ℕ} {loops marks paths up scratch mid out near far stores moves : ℕ} → Bounded L s →
     (byteSize L ≤ scratch) × ((byteSize L ≤ mid) × (byteSize L ≤ out)) → (blockSize L ≤ up) × (up < 2 ^ 32) →
-    (L .lines ≤ loops) × ((L .lines ≤ marks) × (L .lines ≤ paths)) → (far ≡ near) × (far ≡ stores) →
+    (L .lines ≤ loops) × ((L .lines ≤ marks) × ((L .lines ≤ paths) × (L .lines ≤ moves))) → (far ≡ near) × (far ≡ stores) →
     (length (linesOf s) ≤ loops) × ((length (linesOf s) ≤ marks) × ((length (linesOf s) ≤ paths) × ((length (pathParents (linesOf s)) ≤ up) × ((up < 2 ^ 32)
-    × ((length s ≤ scratch) × ((length (unlines (apply (onceActs R (linesOf s)) (linesOf s))) ≤ mid) × ((length (unlines (optimizeOnce R (linesOf s))) ≤ out) × ((far ≡ near) × (far ≡ stores)))))))))
+    × ((length s ≤ scratch) × ((length (unlines (apply (onceActs R (linesOf s)) (linesOf s))) ≤ mid) × ((length (unlines (optimizeOnce R (linesOf s))) ≤ out) × (((far ≡ near) × (far ≡ stores)) × (length (linesOf s) ≤ moves)))))))))
 once-room R {s = s} r b u l w = (
   omega (arith, r .lines, l .0),
   (
     omega (arith, r .lines, l .1 .0),
     (
-      omega (arith, r .lines, l .1 .1),
+      omega (arith, r .lines, l .1 .1 .0),
       (
         omega (arith, path-parents-text s, r .braces, u .0),
         (
@@ -146,7 +146,7 @@ once-room R {s = s} r b u l w = (
             omega (arith, room-length r, b .0),
             (
               omega (arith, room-fits (once-acts R) r, b .1 .0),
-              (omega (arith, room-fits (tame-once R) r, b .1 .1), w),
+              (omega (arith, room-fits (tame-once R) r, b .1 .1), (w, omega (arith, r .lines, l .1 .1 .1))),
             ),
           ),
         ),
@@ -155,9 +155,9 @@ once-room R {s = s} r b u l w = (
   ),
 )
 
-pub phis-room : (R : Reading) {L : Limits} {s : List ℕ} {scratch first second out : ℕ} → Bounded L s →
-    (byteSize L ≤ scratch) × ((byteSize L ≤ first) × ((byteSize L ≤ second) × (byteSize L ≤ out))) →
-    (longest R s ≤ scratch) × ((length (unlines (round R (linesOf s))) ≤ first) × ((length (unlines (round R (round R (linesOf s)))) ≤ second) × (length (unlines (pruneDeadPhis R (linesOf s))) ≤ out)))
+pub phis-room : (R : Reading) {L : Limits} {s : List ℕ} {scratch first second out moves : ℕ} → Bounded L s →
+    (byteSize L ≤ scratch) × ((byteSize L ≤ first) × ((byteSize L ≤ second) × ((byteSize L ≤ out) × (L .lines ≤ moves)))) →
+    (longest R s ≤ scratch) × ((length (unlines (round R (linesOf s))) ≤ first) × ((length (unlines (round R (round R (linesOf s)))) ≤ second) × ((length (unlines (pruneDeadPhis R (linesOf s))) ≤ out) × (length (linesOf s) ≤ moves))))
 phis-room R {s = s} r b =
     let one : List (List ℕ) = round R (linesOf s) in
     let v = round-weight 0 R (linesOf s) in (
@@ -166,7 +166,7 @@ phis-room R {s = s} r b =
         omega (arith, length-weight 0 (unlines one), v, r .heavy, b .1 .0),
         (
           omega (arith, length-weight 0 (unlines (round R one)), round-weight 0 R one, v, r .heavy, b .1 .1 .0),
-          omega (arith, room-fits (tame-phis R) r, b .1 .1 .1),
+          (omega (arith, room-fits (tame-phis R) r, b .1 .1 .1 .0), omega (arith, r .lines, b .1 .1 .1 .1)),
         ),
       ),
     )

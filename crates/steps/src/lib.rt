@@ -1,24 +1,42 @@
 // The passes by number: the work buffers and tables are split among the tables and the scratch that each asks for.
 ghost use mathlib.Core.Path.{_≡_};
 ghost use Prim.Native.Nat.{_≤_, _<_, _^_};
-ghost use lib.ListN.{length, replicate};
+ghost use lib.ListN.{length, take, replicate};
 ghost use Rattle.lines.specs.Lf.{linesOf, unlines};
 ghost use Rattle.lines.specs.Inner.Out.{Wrote};
+ghost use Rattle.lines.specs.Acts.{apply};
+ghost use Rattle.origins.specs.Inner.Fates.{fatesOf, follow};
+ghost use Rattle.origins.specs.Inner.Codes.{movesOf, codesOf, landGo, through, standing};
 ghost use Rattle.reading.specs.Reading.{readingOf};
-ghost use Rattle.temps.specs.Temps.{pruneDeadTemps};
-ghost use Rattle.once.specs.Once.{optimizeOnce};
+ghost use Rattle.temps.specs.Temps.{pruneDeadTempsActs, pruneDeadTemps};
+ghost use Rattle.once.specs.Once.{onceActs, optimizeOnce};
 ghost use Rattle.phis.specs.Phis.{pruneDeadPhis};
-ghost use Rattle.decls.specs.Decls.{pruneDecls};
+ghost use Rattle.phis.specs.Inner.Moves.{pruneDeadPhisActs};
+ghost use Rattle.decls.specs.Decls.{pruneDeclsActs};
 ghost use Rattle.calls.specs.LeavesOf.{leavesOf};
-ghost use Rattle.calls.specs.Calls.{rebuildCalls};
-ghost use Rattle.bind.specs.Bind.{bindDeclarators};
+ghost use Rattle.calls.specs.Calls.{rebuildCallsActs, rebuildCalls};
+ghost use Rattle.bind.specs.Bind.{bindDeclaratorsActs, bindDeclarators};
 ghost use Rattle.limits.specs.Entry.{byteSize, blockSize};
-ghost use Rattle.steps.specs.Step.{stepOf};
+ghost use Rattle.steps.specs.Step.{stepOf, stepFates};
 ghost use Rattle.steps.specs.Inner.Bounds.{Bounded, Sized, Tabled};
 ghost use Rattle.steps.specs.Inner.Left.{leftC, leftD, leftE, leftU, Left, cleared, usesT, Cleared, Few};
+ghost use Rattle.steps.specs.Inner.Few.{fewActs};
 use limits::Task;
 
-// Runs prune_dead_temps: `own` gets the temps whose numbers are not low, and the tables what is declared and read.
+// Takes a table of origins on through the moves of `n` lines, makes the table of moves 0, and returns how many of the lines stand.
+fn trace(n: usize, moves: &mut [usize], table: &mut [usize]) -> usize
+    requires { ⌜ n ≤ length (now moves) ⌝ }
+    ensures answer { λ r. ⌜ r ≡ standing (take n (now (moves .entry))) ⌝ }
+    ensures memory { λ _. ⌜ now (moves .exit) ≡ replicate (length (now (moves .entry))) 0 ⌝ }
+    ensures origins { λ _. ⌜ now (table .exit) ≡ through (now (table .entry)) (landGo (take n (now (moves .entry))) 0) ⌝ }
+{
+    let s = origins::land(&mut moves[..n]);
+    origins::follow(table, &moves[..n]);
+    slots::wipe(moves);
+    s
+}
+
+// Runs prune_dead_temps: `own` gets the temps whose numbers are not low, the tables what is declared and read, and `moves` the moves of the lines.
 fn temps_step(
     m: Task,
     src: &[u8],
@@ -27,16 +45,18 @@ fn temps_step(
     read: &mut [u8],
     own: &mut [usize],
     dst: &mut [u8],
+    moves: &mut [usize],
 ) -> usize
-    requires { ⌜ Bounded (m .limits) (now src) × ((byteSize (m .limits) ≤ length (now scratch)) × (byteSize (m .limits) ≤ length (now dst))) ⌝ }
+    requires { ⌜ Bounded (m .limits) (now src) × ((byteSize (m .limits) ≤ length (now scratch)) × ((byteSize (m .limits) ≤ length (now dst)) × ((m .limits .lines) ≤ length (now moves)))) ⌝ }
     ensures answer { λ r. ⌜ Wrote (now (dst .entry)) 0 (unlines (pruneDeadTemps (readingOf (m .mode .0)) (linesOf (now (src .entry))))) (now (dst .exit)) r ⌝ }
     ensures memory { λ _. ⌜ now (scratch .exit) ≡ leftC (m .mode .0) 1 (now (src .entry)) (now (scratch .entry)) ⌝ }
     ensures tables { λ _. ⌜ (now (declared .exit) ≡ replicate (length (now (declared .entry))) 0) × ((now (read .exit) ≡ replicate (length (now (read .entry))) 0) × (now (own .exit) ≡ replicate (length (now (own .entry))) 0)) ⌝ }
+    ensures moves { λ _. ⌜ Wrote (now (moves .entry)) 0 (movesOf (pruneDeadTempsActs (readingOf (m .mode .0)) (linesOf (now (src .entry))))) (now (moves .exit)) (length (linesOf (now (src .entry)))) ⌝ }
 {
-    temps::prune_dead_temps(m.mode, src, own, declared, read, scratch, dst)
+    temps::prune_dead_temps(m.mode, src, own, declared, read, scratch, dst, moves)
 }
 
-// Runs optimize_once, and makes its tables over lines 0.
+// Runs optimize_once, takes the table of origins on through its moves, and makes its tables over lines 0.
 fn once_step(
     m: Task,
     src: &[u8],
@@ -53,12 +73,15 @@ fn once_step(
     paths: &mut [usize],
     ends: &mut [usize],
     seen: &mut [usize],
+    moves: &mut [usize],
     dst: &mut [u8],
+    table: &mut [usize],
 ) -> usize
-    requires { ⌜ Bounded (m .limits) (now src) × (((byteSize (m .limits) ≤ length (now scratch)) × ((byteSize (m .limits) ≤ length (now mid)) × (byteSize (m .limits) ≤ length (now dst)))) × (((blockSize (m .limits) ≤ length (now up)) × (length (now up) < 2 ^ 32)) × ((((m .limits .lines) ≤ length (now loops)) × (((m .limits .lines) ≤ length (now marks)) × ((m .limits .lines) ≤ length (now paths)))) × ((length (now far) ≡ length (now near)) × (length (now far) ≡ length (now stores)))))) ⌝ }
+    requires { ⌜ Bounded (m .limits) (now src) × (((byteSize (m .limits) ≤ length (now scratch)) × ((byteSize (m .limits) ≤ length (now mid)) × (byteSize (m .limits) ≤ length (now dst)))) × (((blockSize (m .limits) ≤ length (now up)) × (length (now up) < 2 ^ 32)) × ((((m .limits .lines) ≤ length (now loops)) × (((m .limits .lines) ≤ length (now marks)) × (((m .limits .lines) ≤ length (now paths)) × ((m .limits .lines) ≤ length (now moves))))) × ((length (now far) ≡ length (now near)) × (length (now far) ≡ length (now stores)))))) ⌝ }
     ensures answer { λ r. ⌜ Wrote (now (dst .entry)) 0 (unlines (optimizeOnce (readingOf (m .mode .0)) (linesOf (now (src .entry))))) (now (dst .exit)) r ⌝ }
     ensures memory { λ _. ⌜ (now (scratch .exit) ≡ leftC (m .mode .0) 2 (now (src .entry)) (now (scratch .entry))) × ((now (mid .exit) ≡ leftD (m .mode .0) 2 (now (src .entry)) (now (mid .entry))) × (now (up .exit) ≡ leftU 2 (now (src .entry)) (now (up .entry)))) ⌝ }
-    ensures tables { λ _. ⌜ (now (loops .exit) ≡ replicate (length (now (loops .entry))) 0) × ((now (marks .exit) ≡ replicate (length (now (marks .entry))) 0) × ((now (notes .exit) ≡ replicate (length (now (notes .entry))) 0) × ((now (near .exit) ≡ replicate (length (now (near .entry))) 0) × ((now (far .exit) ≡ replicate (length (now (far .entry))) 0) × ((now (stores .exit) ≡ replicate (length (now (stores .entry))) 0) × ((now (paths .exit) ≡ replicate (length (now (paths .entry))) 0) × ((now (ends .exit) ≡ replicate (length (now (ends .entry))) 0) × (now (seen .exit) ≡ replicate (length (now (seen .entry))) 0)))))))) ⌝ }
+    ensures tables { λ _. ⌜ (now (loops .exit) ≡ replicate (length (now (loops .entry))) 0) × ((now (marks .exit) ≡ replicate (length (now (marks .entry))) 0) × ((now (notes .exit) ≡ replicate (length (now (notes .entry))) 0) × ((now (near .exit) ≡ replicate (length (now (near .entry))) 0) × ((now (far .exit) ≡ replicate (length (now (far .entry))) 0) × ((now (stores .exit) ≡ replicate (length (now (stores .entry))) 0) × ((now (paths .exit) ≡ replicate (length (now (paths .entry))) 0) × ((now (ends .exit) ≡ replicate (length (now (ends .entry))) 0) × ((now (seen .exit) ≡ replicate (length (now (seen .entry))) 0) × (now (moves .exit) ≡ replicate (length (now (moves .entry))) 0))))))))) ⌝ }
+    ensures origins { λ _. ⌜ now (table .exit) ≡ through (now (table .entry)) (codesOf (follow (fatesOf (onceActs (readingOf (m .mode .0)) (linesOf (now (src .entry))))) (fatesOf (pruneDeclsActs (apply (onceActs (readingOf (m .mode .0)) (linesOf (now (src .entry)))) (linesOf (now (src .entry)))))))) ⌝ }
 {
     let n = once::optimize_once(
         m.mode,
@@ -77,14 +100,18 @@ fn once_step(
         ends,
         seen,
         dst,
+        moves,
     );
+    let k = lines::count_lines(src);
+    once::moves_of(&marks[..k], paths);
     lines::wipe(loops, loops.len());
     lines::wipe(marks, marks.len());
-    slots::wipe(paths);
+    let s = trace(k, paths, table);
+    trace(s, moves, table);
     n
 }
 
-// Runs rebuild_calls, and makes its tables over lines 0.
+// Runs rebuild_calls, takes the table of origins on through its moves, which are its owners, and makes its tables over lines 0.
 fn calls_step(
     m: Task,
     src: &[u8],
@@ -101,11 +128,13 @@ fn calls_step(
     ends: &mut [usize],
     blocks: &mut [usize],
     dst: &mut [u8],
+    table: &mut [usize],
 ) -> usize
     requires { ⌜ Bounded (m .limits) (now src) × (((byteSize (m .limits) ≤ length (now cur)) × ((byteSize (m .limits) ≤ length (now next)) × ((byteSize (m .limits) ≤ length (now stack)) × (byteSize (m .limits) ≤ length (now dst))))) × (((blockSize (m .limits) ≤ length (now up)) × (length (now up) < 2 ^ 32)) × (((m .limits .lines) ≤ length (now starts)) × (((m .limits .lines) ≤ length (now owner)) × (((m .limits .lines) ≤ length (now ends)) × ((m .limits .lines) ≤ length (now blocks))))))) ⌝ }
     ensures answer { λ r. ⌜ Wrote (now (dst .entry)) 0 (unlines (rebuildCalls (leavesOf (readingOf (m .mode .0))) (linesOf (now (src .entry))))) (now (dst .exit)) r ⌝ }
     ensures memory { λ _. ⌜ (now (cur .exit) ≡ leftC (m .mode .0) 4 (now (src .entry)) (now (cur .entry))) × ((now (next .exit) ≡ leftD (m .mode .0) 4 (now (src .entry)) (now (next .entry))) × ((now (stack .exit) ≡ leftE (m .mode .0) 4 (now (src .entry)) (now (stack .entry))) × (now (up .exit) ≡ leftU 4 (now (src .entry)) (now (up .entry))))) ⌝ }
     ensures tables { λ _. ⌜ (now (starts .exit) ≡ replicate (length (now (starts .entry))) 0) × ((now (near .exit) ≡ replicate (length (now (near .entry))) 0) × ((now (stores .exit) ≡ replicate (length (now (stores .entry))) 0) × ((now (notes .exit) ≡ replicate (length (now (notes .entry))) 0) × ((now (owner .exit) ≡ replicate (length (now (owner .entry))) 0) × ((now (ends .exit) ≡ replicate (length (now (ends .entry))) 0) × (now (blocks .exit) ≡ replicate (length (now (blocks .entry))) 0)))))) ⌝ }
+    ensures origins { λ _. ⌜ now (table .exit) ≡ through (now (table .entry)) (codesOf (fatesOf (rebuildCallsActs (leavesOf (readingOf (m .mode .0))) (linesOf (now (src .entry)))))) ⌝ }
 {
     let n = calls::rebuild_calls(
         src,
@@ -123,14 +152,15 @@ fn calls_step(
         next,
         dst,
     );
+    let k = lines::count_lines(src);
+    trace(k, owner, table);
     lines::wipe(starts, starts.len());
-    slots::wipe(owner);
     slots::wipe(ends);
     slots::wipe(blocks);
     n
 }
 
-// Runs bind_declarators, and makes its tables over lines 0.
+// Runs bind_declarators, takes the table of origins on through its moves, and makes its tables over lines 0.
 fn bind_step(
     m: Task,
     src: &[u8],
@@ -143,21 +173,25 @@ fn bind_step(
     seen: &mut [usize],
     first: &mut [usize],
     dst: &mut [u8],
+    table: &mut [usize],
 ) -> usize
     requires { ⌜ Bounded (m .limits) (now src) × ((byteSize (m .limits) ≤ length (now dst)) × (((blockSize (m .limits) ≤ length (now up)) × (length (now up) < 2 ^ 32)) × (((m .limits .lines) ≤ length (now starts)) × (((m .limits .lines) ≤ length (now marks)) × (((m .limits .lines) ≤ length (now blocks)) × ((m .limits .lines) ≤ length (now ends))))))) ⌝ }
     ensures answer { λ r. ⌜ Wrote (now (dst .entry)) 0 (unlines (bindDeclarators (readingOf (m .mode .0)) (linesOf (now (src .entry))))) (now (dst .exit)) r ⌝ }
     ensures memory { λ _. ⌜ now (up .exit) ≡ leftU 6 (now (src .entry)) (now (up .entry)) ⌝ }
     ensures tables { λ _. ⌜ (now (starts .exit) ≡ replicate (length (now (starts .entry))) 0) × ((now (marks .exit) ≡ replicate (length (now (marks .entry))) 0) × ((now (blocks .exit) ≡ replicate (length (now (blocks .entry))) 0) × ((now (ends .exit) ≡ replicate (length (now (ends .entry))) 0) × ((now (seen .exit) ≡ replicate (length (now (seen .entry))) 0) × (now (first .exit) ≡ replicate (length (now (first .entry))) 0))))) ⌝ }
+    ensures origins { λ _. ⌜ now (table .exit) ≡ through (now (table .entry)) (codesOf (fatesOf (bindDeclaratorsActs (readingOf (m .mode .0)) (linesOf (now (src .entry)))))) ⌝ }
 {
     let n = bind::bind_declarators(src, own, ends, blocks, starts, up, marks, seen, first, dst);
+    let k = lines::count_lines(src);
+    bind::moves_of(&marks[..k], blocks);
+    trace(k, blocks, table);
     lines::wipe(starts, starts.len());
     lines::wipe(marks, marks.len());
-    slots::wipe(blocks);
     slots::wipe(ends);
     n
 }
 
-// Runs prune_dead_phis, with a table of phis.
+// Runs prune_dead_phis, with a table of phis: `moves` gets the moves of the lines.
 fn phis_step(
     m: Task,
     src: &[u8],
@@ -167,16 +201,18 @@ fn phis_step(
     second: &mut [u8],
     table: &mut [u8],
     dst: &mut [u8],
+    moves: &mut [usize],
 ) -> usize
-    requires { ⌜ Bounded (m .limits) (now src) × ((byteSize (m .limits) ≤ length (now scratch)) × ((byteSize (m .limits) ≤ length (now first)) × ((byteSize (m .limits) ≤ length (now second)) × (byteSize (m .limits) ≤ length (now dst))))) ⌝ }
+    requires { ⌜ Bounded (m .limits) (now src) × ((byteSize (m .limits) ≤ length (now scratch)) × ((byteSize (m .limits) ≤ length (now first)) × ((byteSize (m .limits) ≤ length (now second)) × ((byteSize (m .limits) ≤ length (now dst)) × ((m .limits .lines) ≤ length (now moves)))))) ⌝ }
     ensures answer { λ r. ⌜ Wrote (now (dst .entry)) 0 (unlines (pruneDeadPhis (readingOf (m .mode .0)) (linesOf (now (src .entry))))) (now (dst .exit)) r ⌝ }
     ensures memory { λ _. ⌜ (now (scratch .exit) ≡ leftC (m .mode .0) 3 (now (src .entry)) (now (scratch .entry))) × ((now (first .exit) ≡ leftD (m .mode .0) 3 (now (src .entry)) (now (first .entry))) × (now (second .exit) ≡ leftE (m .mode .0) 3 (now (src .entry)) (now (second .entry)))) ⌝ }
     ensures tables { λ _. ⌜ now (table .exit) ≡ replicate (length (now (table .entry))) 0 ⌝ }
+    ensures moves { λ _. ⌜ Wrote (now (moves .entry)) 0 (movesOf (pruneDeadPhisActs (readingOf (m .mode .0)) (linesOf (now (src .entry))))) (now (moves .exit)) (length (linesOf (now (src .entry)))) ⌝ }
 {
-    phis::prune_dead_phis(m.mode, src, own, table, scratch, first, second, dst)
+    phis::prune_dead_phis(m.mode, src, own, table, scratch, first, second, dst, moves)
 }
 
-// Runs a pass by its number as `step` does, where it has no blocks: for a number that is none of 2, 4 and 6.
+// Runs a pass by its number as `step` does, where it has no blocks: for a number that is none of 2, 4 and 6. `p` gets the moves of the lines.
 fn few_step(
     k: usize,
     m: Task,
@@ -188,25 +224,28 @@ fn few_step(
     e: &mut [u8],
     f: &mut [u8],
     g: &mut [u8],
+    p: &mut [usize],
     q: &mut [usize],
     r: &mut [usize],
 ) -> usize
-    requires { ⌜ ((k ≡ 2 → ⊥) × ((k ≡ 4 → ⊥) × (k ≡ 6 → ⊥))) × (Bounded (m .limits) (now src) × ((byteSize (m .limits) ≤ length (now dst)) × ((byteSize (m .limits) ≤ length (now c)) × ((byteSize (m .limits) ≤ length (now d)) × (byteSize (m .limits) ≤ length (now e)))))) ⌝ }
+    requires { ⌜ ((k ≡ 2 → ⊥) × ((k ≡ 4 → ⊥) × (k ≡ 6 → ⊥))) × (Bounded (m .limits) (now src) × ((byteSize (m .limits) ≤ length (now dst)) × ((byteSize (m .limits) ≤ length (now c)) × ((byteSize (m .limits) ≤ length (now d)) × ((byteSize (m .limits) ≤ length (now e)) × ((m .limits .lines) ≤ length (now p))))))) ⌝ }
     ensures answer { λ n. ⌜ Wrote (now (dst .entry)) 0 (unlines (stepOf (readingOf (m .mode .0)) k (linesOf (now (src .entry))))) (now (dst .exit)) n ⌝ }
     ensures memory { λ _. ⌜ Few (m .mode .0) k (now (src .entry)) (now (c .entry)) (now (d .entry)) (now (e .entry)) (now (f .entry)) (now (g .entry)) (now (q .entry)) (now (r .entry)) (now (c .exit)) (now (d .exit)) (now (e .exit)) (now (f .exit)) (now (g .exit)) (now (q .exit)) (now (r .exit)) ⌝ }
+    ensures moves { λ _. ⌜ Wrote (now (p .entry)) 0 (movesOf (fewActs (readingOf (m .mode .0)) k (linesOf (now (src .entry))))) (now (p .exit)) (length (linesOf (now (src .entry)))) ⌝ }
 {
     if k == 0 {
-        return globals::remove_globals(src, dst);
+        return globals::remove_globals(src, dst, p);
     }
     if k == 1 {
-        return temps_step(m, src, c, f, g, q, dst);
+        return temps_step(m, src, c, f, g, q, dst, p);
     }
     if k == 3 {
-        return phis_step(m, src, own, c, d, e, f, dst);
+        return phis_step(m, src, own, c, d, e, f, dst, p);
     }
     if k == 5 {
-        return decls::prune_decls(src, own, r, dst);
+        return decls::prune_decls(src, own, r, dst, p);
     }
+    origins::stay_lines(src, p, 0);
     lines::put_lines(src, dst, 0)
 }
 
@@ -230,24 +269,50 @@ fn other_step(
     p: &mut [usize],
     q: &mut [usize],
     r: &mut [usize],
+    t: &mut [usize],
+    table: &mut [usize],
 ) -> usize
-    requires { ⌜ (k ≡ 6 → ⊥) × (Bounded (m .limits) (now src) × (Sized (m .limits) (now dst) (now c) (now d) (now e) (now u) × Tabled (m .limits) (now f) (now g) (now v) (now w) (now x) (now p) (now q) (now r))) ⌝ }
+    requires { ⌜ (k ≡ 6 → ⊥) × (Bounded (m .limits) (now src) × (Sized (m .limits) (now dst) (now c) (now d) (now e) (now u) × Tabled (m .limits) (now f) (now g) (now v) (now w) (now x) (now p) (now q) (now r) (now t))) ⌝ }
     ensures answer { λ n. ⌜ Wrote (now (dst .entry)) 0 (unlines (stepOf (readingOf (m .mode .0)) k (linesOf (now (src .entry))))) (now (dst .exit)) n ⌝ }
     ensures memory { λ _. ⌜ Left (m .mode .0) k (now (src .entry)) (now (c .entry)) (now (d .entry)) (now (e .entry)) (now (u .entry)) (now (c .exit)) (now (d .exit)) (now (e .exit)) (now (u .exit)) ⌝ }
     ensures tables { λ _. ⌜ Cleared k (now (f .entry)) (now (g .entry)) (now (h .entry)) (now (v .entry)) (now (w .entry)) (now (x .entry)) (now (p .entry)) (now (q .entry)) (now (r .entry)) (now (f .exit)) (now (g .exit)) (now (h .exit)) (now (v .exit)) (now (w .exit)) (now (x .exit)) (now (p .exit)) (now (q .exit)) (now (r .exit)) ⌝ }
+    ensures last { λ _. ⌜ now (t .exit) ≡ cleared (usesT k) (now (t .entry)) ⌝ }
+    ensures origins { λ _. ⌜ now (table .exit) ≡ through (now (table .entry)) (codesOf (stepFates (readingOf (m .mode .0)) k (linesOf (now (src .entry))))) ⌝ }
 {
     if k == 2 {
-        return once_step(m, src, own, c, d, f, g, h, u, v, w, x, p, q, r, dst);
+        return once_step(
+            m,
+            src,
+            own,
+            c,
+            d,
+            f,
+            g,
+            h,
+            u,
+            v,
+            w,
+            x,
+            p,
+            q,
+            r,
+            t,
+            dst,
+            table,
+        );
     }
     if k == 4 {
-        return calls_step(m, src, own, c, d, e, f, u, v, w, x, p, q, r, dst);
+        return calls_step(m, src, own, c, d, e, f, u, v, w, x, p, q, r, dst, table);
     }
-    few_step(k, m, src, own, dst, c, d, e, f, g, q, r)
+    let n = few_step(k, m, src, own, dst, c, d, e, f, g, p, q, r);
+    let j = lines::count_lines(src);
+    trace(j, p, table);
+    n
 }
 
 // Runs a pass of a task by its number from one buffer into another, and returns the length of what it wrote: 0 is the removal, and another number than
 // 1 to 6 changes nothing. The other buffers are scratch, and `f` to `h`, `v` to `x` and `p` to `t` are tables: those that the pass uses are 0 afterwards.
-// `own` has the numbers that are not low, and says where their entries stand.
+// `own` has the numbers that are not low, and says where their entries stand. `table` has the codes of lines, and is taken on through the pass.
 pub fn step(
     k: usize,
     m: Task,
@@ -268,15 +333,38 @@ pub fn step(
     q: &mut [usize],
     r: &mut [usize],
     t: &mut [usize],
+    table: &mut [usize],
 ) -> usize
-    requires { ⌜ Bounded (m .limits) (now src) × (Sized (m .limits) (now dst) (now c) (now d) (now e) (now u) × Tabled (m .limits) (now f) (now g) (now v) (now w) (now x) (now p) (now q) (now r)) ⌝ }
+    requires { ⌜ Bounded (m .limits) (now src) × (Sized (m .limits) (now dst) (now c) (now d) (now e) (now u) × Tabled (m .limits) (now f) (now g) (now v) (now w) (now x) (now p) (now q) (now r) (now t)) ⌝ }
     ensures answer { λ n. ⌜ Wrote (now (dst .entry)) 0 (unlines (stepOf (readingOf (m .mode .0)) k (linesOf (now (src .entry))))) (now (dst .exit)) n ⌝ }
     ensures memory { λ _. ⌜ Left (m .mode .0) k (now (src .entry)) (now (c .entry)) (now (d .entry)) (now (e .entry)) (now (u .entry)) (now (c .exit)) (now (d .exit)) (now (e .exit)) (now (u .exit)) ⌝ }
     ensures tables { λ _. ⌜ Cleared k (now (f .entry)) (now (g .entry)) (now (h .entry)) (now (v .entry)) (now (w .entry)) (now (x .entry)) (now (p .entry)) (now (q .entry)) (now (r .entry)) (now (f .exit)) (now (g .exit)) (now (h .exit)) (now (v .exit)) (now (w .exit)) (now (x .exit)) (now (p .exit)) (now (q .exit)) (now (r .exit)) ⌝ }
     ensures last { λ _. ⌜ now (t .exit) ≡ cleared (usesT k) (now (t .entry)) ⌝ }
+    ensures origins { λ _. ⌜ now (table .exit) ≡ through (now (table .entry)) (codesOf (stepFates (readingOf (m .mode .0)) k (linesOf (now (src .entry))))) ⌝ }
 {
     if k == 6 {
-        return bind_step(m, src, own, f, g, u, p, q, r, t, dst);
+        return bind_step(m, src, own, f, g, u, p, q, r, t, dst, table);
     }
-    other_step(k, m, src, own, dst, c, d, e, f, g, h, u, v, w, x, p, q, r)
+    other_step(
+        k,
+        m,
+        src,
+        own,
+        dst,
+        c,
+        d,
+        e,
+        f,
+        g,
+        h,
+        u,
+        v,
+        w,
+        x,
+        p,
+        q,
+        r,
+        t,
+        table,
+    )
 }

@@ -1,25 +1,29 @@
 -- Laws of texts in which no digit stands after a `t`: they store no temp, and stay as they are. Assumes nothing.
 use Prim.Native.Nat.{ℕ, zero, suc, _+_, _-_, _≤_, _<_}
 use mathlib.Core.Path.{_≡_, refl, sym, ap, _∙_}
-use mathlib.Core.Bool.{Bool, true, false, cond, not, _&&_, _||_}
-use mathlib.Core.List.{List, [], _∷_, _++_}
+use mathlib.Core.Bool.{Bool, true, false, not, _&&_, _||_}
+use mathlib.Core.List.{List, [], _∷_}
 use native.Mathlib.Numerals.{add-one}
 use native.Mathlib.Omega.{arith}
 use borrow.Author.Tests.{not-true}
 use lib.Dec.{eqb, ltb}
-use lib.ListN.{length, take, drop, getD, length-drop}
+use lib.ListN.{length, take, drop, getD, replicate, length-drop}
 use lib.Seq.{drop-cons, getD-drop}
 use Rattle.lines.specs.Lf.{upTo, linesOf, unlines, prefixed, all}
-use Rattle.lines.specs.Acts.{act, apply}
 use Rattle.lines.proofs.Tests.{no, or-false, and-false, and-left, and-right}
 use Rattle.text.specs.Trim.{fromOf, toOf, trimStart, trimOf}
 use Rattle.names.specs.Names.{isDigit, allDigits, isTemp}
 use Rattle.reading.specs.Reading.{Reading}
 use Rattle.reading.specs.Assign.{unended, isAssign, leftOf}
+use Rattle.lines.specs.Inner.Out.{Wrote}
 use Rattle.lines.proofs.Lacking.{lines-lack}
+use Rattle.lines.proofs.ActLaws.{keeps, apply-keep}
+use Rattle.origins.specs.Inner.Codes.{movesOf}
+use Rattle.origins.proofs.Notes.{stay-moves}
 use Rattle.slots.proofs.GatherLaws.{least-new, least-old}
 use Rattle.temps.specs.Temps.{tempAct, tempActs, pruneDeadTempsActs, pruneDeadTemps}
 use Rattle.temps.specs.Inner.Scratch.{tempIn, scratchLine, tempScratch}
+use Rattle.temps.proofs.PassLaws.{temps-length}
 
 -- ---- parts of a text
 
@@ -80,11 +84,11 @@ left-lack l h =
 
 -- ---- a text stays as it is
 
-keep-lines : (R : Reading) (ls ms : List (List ℕ)) → all (λ (l : List ℕ). not (tempIn l)) ms ≡ true → apply (tempActs R ls ms) ms ≡ ms
-unfolding tempActs tempAct apply act
-keep-lines R ls [] h = refl
-keep-lines R ls (m ∷ ms) h =
-    rw (left-lack m (not-true _ (and-left (not (tempIn m)) _ h)), and-false (isAssign (trimOf m))) (ap (λ (r : List (List ℕ)). m ∷ r) (keep-lines R ls ms (and-right (not (tempIn m)) _ h)))
+keep-acts : (R : Reading) (ls ms : List (List ℕ)) → all (λ (l : List ℕ). not (tempIn l)) ms ≡ true → all keeps (tempActs R ls ms) ≡ true
+unfolding tempActs tempAct
+keep-acts R ls [] h = refl
+keep-acts R ls (m ∷ ms) h =
+    rw (left-lack m (not-true _ (and-left (not (tempIn m)) _ h)), and-false (isAssign (trimOf m))) (keep-acts R ls ms (and-right (not (tempIn m)) _ h))
 
 keep-scratch : (k : Bool) (ms : List (List ℕ)) (d : List ℕ) → all (λ (l : List ℕ). not (tempIn l)) ms ≡ true → tempScratch k ms d ≡ d
 unfolding tempScratch scratchLine
@@ -93,9 +97,17 @@ keep-scratch k (m ∷ ms) d h =
     rw (left-lack m (not-true _ (and-left (not (tempIn m)) _ h)), and-false (isAssign (trimOf m))) (keep-scratch k ms d (and-right (not (tempIn m)) _ h))
 
 module _ (t : List ℕ) (h : tempIn t ≡ false) where
+  keeps-all : (R : Reading) → all keeps (pruneDeadTempsActs R (linesOf t)) ≡ true
+  unfolding pruneDeadTempsActs
+  keeps-all R = keep-acts R (linesOf t) (linesOf t) (lines-lack tempIn lack-rest lack-take t h)
+
   pub lack-text : (R : Reading) → unlines (linesOf t) ≡ unlines (pruneDeadTemps R (linesOf t))
-  unfolding pruneDeadTemps pruneDeadTempsActs
-  lack-text R = sym (ap unlines (keep-lines R (linesOf t) (linesOf t) (lines-lack tempIn lack-rest lack-take t h)))
+  unfolding pruneDeadTemps
+  lack-text R = sym (ap unlines (apply-keep (pruneDeadTempsActs R (linesOf t)) (linesOf t) (temps-length R (linesOf t)) (keeps-all R)))
+
+  -- and none of its lines moves
+  pub lack-moves : (R : Reading) {d d′ : List ℕ} {r : ℕ} → Wrote d 0 (replicate (length (linesOf t)) 0) d′ r → Wrote d 0 (movesOf (pruneDeadTempsActs R (linesOf t))) d′ (length (linesOf t))
+  lack-moves R w = stay-moves (pruneDeadTempsActs R (linesOf t)) (length (linesOf t)) (temps-length R (linesOf t)) (keeps-all R) w
 
   pub lack-scratch : (k : Bool) (d : List ℕ) → d ≡ tempScratch k (linesOf t) d
   lack-scratch k d = sym (keep-scratch k (linesOf t) d (lines-lack tempIn lack-rest lack-take t h))

@@ -9,11 +9,13 @@ use lib.Dec.{eqb}
 use lib.ListN.{length, take, drop, getD, length-append}
 use Rattle.lines.specs.Lf.{part, upTo, prefixed, linesOf, unlines}
 use Rattle.lines.specs.Inner.Out.{putAt, Wrote}
-use Rattle.lines.specs.Acts.{keep, gone, act, apply}
+use Rattle.lines.specs.Acts.{Act, keep, gone, act, apply}
 use Rattle.lines.proofs.Tests.{and-false, and-true, and-left, and-right}
 use Rattle.lines.proofs.LfLaws.{lines-at, lines-end}
 use Rattle.lines.proofs.ActLaws.{unlines-append}
-use Rattle.lines.proofs.OutLaws.{Writing, writing-start, writing-as, writing-room, writing-put, writing-end}
+use Rattle.lines.proofs.OutLaws.{Writing, writing-start, writing-as, writing-room, writing-put, writing-end, wrote-as}
+use Rattle.origins.specs.Inner.Codes.{moveOf, movesOf, noteOf}
+use Rattle.origins.proofs.Notes.{plainly, note-act, moves-length, moves-end}
 use Rattle.text.specs.Trim.{lead, fromOf, endWhite, toOf, trimOf}
 use Rattle.names.specs.Names.{isTemp}
 use Rattle.parse.specs.Inner.Parse.{plainByte}
@@ -133,6 +135,40 @@ go-all : (R : Reading) (ls : List (List ℕ)) → unlines (pruneDeadTemps R ls) 
 unfolding pruneDeadTemps pruneDeadTempsActs
 go-all R ls = refl
 
+-- ---- the moves of lines that are still to come
+
+abbrev toMove : Reading → List (List ℕ) → List (List ℕ) → List ℕ
+toMove R ls ms = movesOf (tempActs R ls ms)
+
+acts-length : (R : Reading) (ls ms : List (List ℕ)) → length (tempActs R ls ms) ≡ length ms
+unfolding tempActs
+acts-length R ls [] = refl
+acts-length R ls (m ∷ ms) = ap suc (acts-length R ls ms)
+
+pub temps-length : (R : Reading) (ls : List (List ℕ)) → length (pruneDeadTempsActs R ls) ≡ length ls
+unfolding pruneDeadTempsActs
+temps-length R ls = acts-length R ls ls
+
+move-line : (R : Reading) (ls : List (List ℕ)) (m : List ℕ) (ms : List (List ℕ)) → toMove R ls (m ∷ ms) ≡ moveOf (tempAct R ls m) ∷ toMove R ls ms
+unfolding tempActs movesOf
+move-line R ls m ms = refl
+
+move-none : (R : Reading) (ls : List (List ℕ)) → toMove R ls [] ≡ []
+unfolding tempActs movesOf
+move-none R ls = refl
+
+move-all : (R : Reading) (ls : List (List ℕ)) → movesOf (pruneDeadTempsActs R ls) ≡ toMove R ls ls
+unfolding pruneDeadTempsActs
+move-all R ls = refl
+
+act-plain : (R : Reading) (ls : List (List ℕ)) (l : List ℕ) → plainly (tempAct R ls l) ≡ true
+unfolding tempAct
+act-plain R ls l = go (isAssign (trimOf l) && (deadTemp (leftOf (trimOf l)) ls && pureIn R (rightOf (trimOf l))))
+  where
+    go : (b : Bool) → plainly (cond b gone keep) ≡ true
+    go true = refl
+    go false = refl
+
 scratch-line : (k : Bool) (m : List ℕ) (ms : List (List ℕ)) (d : List ℕ) → tempScratch k (m ∷ ms) d ≡ tempScratch k ms (scratchLine k m d)
 unfolding tempScratch
 scratch-line k m ms d = refl
@@ -143,23 +179,25 @@ scratch-none k d = refl
 
 -- ---- the loop of `prune_dead_temps`
 
-pub record TempInv (R : Reading) (s : Bool) (t c₀ d₀ c d : List ℕ) (i o : ℕ) : Type 0 where
+pub record TempInv (R : Reading) (s : Bool) (t c₀ d₀ m₀ c d m : List ℕ) (i o n : ℕ) : Type 0 where
   pub room : length t ≤ length c
   pub i≤ : i ≤ length t
   pub same-scratch : length c ≡ length c₀
   pub writing : Writing 0 (unlines (pruneDeadTemps R (linesOf t))) (toGo R (linesOf t) (linesOf (drop i t))) d₀ d o
   pub memory : tempScratch s (linesOf (drop i t)) c ≡ tempScratch s (linesOf t) c₀
+  pub noting : Writing 0 (movesOf (pruneDeadTempsActs R (linesOf t))) (toMove R (linesOf t) (linesOf (drop i t))) m₀ m n
 
-pub temp-start : (R : Reading) (s : Bool) (t c d : List ℕ) → length t ≤ length c → length (unlines (pruneDeadTemps R (linesOf t))) ≤ length d → TempInv R s t c d c d 0 0
-temp-start R s t c d h k = record {
+pub temp-start : (R : Reading) (s : Bool) (t c d m : List ℕ) → length t ≤ length c → length (unlines (pruneDeadTemps R (linesOf t))) ≤ length d → length (linesOf t) ≤ length m → TempInv R s t c d m c d m 0 0 0
+temp-start R s t c d m h k l = record {
   room = h;
   i≤ = omega arith;
   same-scratch = refl;
   writing = writing-as (go-all R (linesOf t)) (writing-start 0 (unlines (pruneDeadTemps R (linesOf t))) d (omega arith));
   memory = refl;
+  noting = writing-as (move-all R (linesOf t)) (writing-start 0 (movesOf (pruneDeadTempsActs R (linesOf t))) m (omega (arith, moves-length (pruneDeadTempsActs R (linesOf t)), temps-length R (linesOf t))));
 }
 
-module _ {R : Reading} {s : Bool} {t c₀ d₀ c d : List ℕ} {i o : ℕ} (h : TempInv R s t c₀ d₀ c d i o) where
+module _ {R : Reading} {s : Bool} {t c₀ d₀ m₀ c d m : List ℕ} {i o n : ℕ} (h : TempInv R s t c₀ d₀ m₀ c d m i o n) where
   module _ (e : ℕ) (k : i < length t) (q : e ≡ i + upTo 10 (drop i t)) where
     -- the next line and what follows it
     next : Writing 0 (unlines (pruneDeadTemps R (linesOf t))) (tempText R (linesOf t) (part i e t) ++ toGo R (linesOf t) (linesOf (drop (min (e + 1) (length t)) t))) d₀ d o
@@ -171,18 +209,28 @@ module _ {R : Reading} {s : Bool} {t c₀ d₀ c d : List ℕ} {i o : ℕ} (h : 
       omega (arith, writing-room next, length-append (tempText R (linesOf t) (part i e t)) (toGo R (linesOf t) (linesOf (drop (min (e + 1) (length t)) t)))),
     )
 
-    pub temp-on : (c′ d′ : List ℕ) (r j : ℕ) → Wrote d o (tempText R (linesOf t) (part i e t)) d′ r → c′ ≡ scratchLine s (part i e t) c → length c′ ≡ length c → j ≡ min (e + 1) (length t) →
-        TempInv R s t c₀ d₀ c′ d′ j r
-    temp-on c′ d′ r j w m g z = record {
+    next-move : Writing 0 (movesOf (pruneDeadTempsActs R (linesOf t))) ((moveOf (tempAct R (linesOf t) (part i e t)) ∷ []) ++ toMove R (linesOf t) (linesOf (drop (min (e + 1) (length t)) t))) m₀ m n
+    next-move = writing-as (ap (λ (ms : List (List ℕ)). toMove R (linesOf t) ms) (lines-at t i e k q) ∙ move-line R (linesOf t) _ _) (h .noting)
+
+    pub move-room : n < length m
+    move-room = omega (arith, writing-room next-move, length-append (moveOf (tempAct R (linesOf t) (part i e t)) ∷ []) (toMove R (linesOf t) (linesOf (drop (min (e + 1) (length t)) t))))
+
+    pub temp-on : (c′ d′ m′ : List ℕ) (r j n′ : ℕ) → Wrote d o (tempText R (linesOf t) (part i e t)) d′ r → c′ ≡ scratchLine s (part i e t) c → length c′ ≡ length c → Wrote m n (noteOf o r ∷ []) m′ n′ → j ≡ min (e + 1) (length t) →
+        TempInv R s t c₀ d₀ m₀ c′ d′ m′ j r n′
+    temp-on c′ d′ m′ r j n′ w x g v z = record {
       room = omega (arith, h .room);
       i≤ = omega arith;
       same-scratch = g ∙ h .same-scratch;
       writing = rw z (writing-put next w);
       memory =
-          rw (z, m)
+          rw (z, x)
           (sym (scratch-line s (part i e t) (linesOf (drop (min (e + 1) (length t)) t)) c)
           ∙ ap (λ (ms : List (List ℕ)). tempScratch s ms c) (sym (lines-at t i e k q))
           ∙ h .memory);
+      noting =
+          let a : Act = tempAct R (linesOf t) (part i e t) in
+          let y : noteOf o r ≡ moveOf a = note-act a (part i e t) d d′ o r (act-plain R (linesOf t) (part i e t)) (wrote-as (sym (act-text R (linesOf t) (part i e t))) w) in
+          rw z (writing-put next-move (wrote-as (ap (λ (b : ℕ). b ∷ []) y) v));
     }
 
   pub temp-end : length t ≤ i → Wrote d₀ 0 (unlines (pruneDeadTemps R (linesOf t))) d o
@@ -190,3 +238,8 @@ module _ {R : Reading} {s : Bool} {t c₀ d₀ c d : List ℕ} {i o : ℕ} (h : 
 
   pub temp-memory : length t ≤ i → c ≡ tempScratch s (linesOf t) c₀
   temp-memory k = sym (ap (λ (ms : List (List ℕ)). tempScratch s ms c) (lines-end t i k) ∙ scratch-none s c) ∙ h .memory
+
+  pub temp-moves : length t ≤ i → Wrote m₀ 0 (movesOf (pruneDeadTempsActs R (linesOf t))) m (length (linesOf t))
+  temp-moves k =
+      moves-end (pruneDeadTempsActs R (linesOf t)) (length (linesOf t)) (temps-length R (linesOf t))
+      (writing-end (writing-as (ap (λ (ms : List (List ℕ)). toMove R (linesOf t) ms) (lines-end t i k) ∙ move-none R (linesOf t)) (h .noting)))

@@ -10,11 +10,12 @@ ghost use lib.ListN.{length, replicate};
 ghost use Rattle.lines.specs.Lf.{partsOf, linesOf, unlines, prefixed, same};
 ghost use Rattle.lines.specs.Inner.Out.{Wrote};
 ghost use Rattle.names.specs.Names.{isDigit, isTemp};
+ghost use Rattle.origins.specs.Inner.Codes.{movesOf};
 ghost use Rattle.parse.specs.Parse.{letWord};
 ghost use Rattle.place.specs.Region.{varWord, constWord};
 ghost use Rattle.reading.specs.Reading.{strictAt, readingOf};
 ghost use Rattle.reading.specs.Assign.{isAssign, leftOf};
-ghost use Rattle.temps.specs.Temps.{anyPiece, declares, tempReads, declaredIn, tempRead, pruneDeadTemps};
+ghost use Rattle.temps.specs.Temps.{anyPiece, declares, tempReads, declaredIn, tempRead, pruneDeadTempsActs, pruneDeadTemps};
 ghost use Rattle.temps.specs.Inner.Scratch.{tempIn, tempGoes, tempText, scratchLine, tempScratch};
 ghost use Rattle.temps.specs.Inner.Table.{keyOf, Tells, TellsOf};
 
@@ -233,18 +234,21 @@ fn prune_with(
     read: &[u8],
     scratch: &mut [u8],
     out: &mut [u8],
+    moves: &mut [usize],
 ) -> usize
     requires { ⌜ ((length (now text) ≤ length (now scratch))
         × ((Tells (now own) (λ (x : List ℕ). declaredIn x (linesOf (now text))) (now declared)) × (TellsOf (now own) (λ (x : List ℕ). declaredIn x (linesOf (now text))) (λ (x : List ℕ). tempRead x (linesOf (now text))) (now read))))
-        × (length (unlines (pruneDeadTemps (readingOf (mode .0)) (linesOf (now text)))) ≤ length (now out)) ⌝ }
+        × ((length (unlines (pruneDeadTemps (readingOf (mode .0)) (linesOf (now text)))) ≤ length (now out)) × (length (linesOf (now text)) ≤ length (now moves))) ⌝ }
     ensures answer { λ r. ⌜ Wrote (now (out .entry)) 0 (unlines (pruneDeadTemps (readingOf (mode .0)) (linesOf (now (text .entry))))) (now (out .exit)) r ⌝ }
     ensures memory { λ _. ⌜ now (scratch .exit) ≡ tempScratch (strictAt (mode .0)) (linesOf (now (text .entry))) (now (scratch .entry)) ⌝ }
+    ensures moves { λ _. ⌜ Wrote (now (moves .entry)) 0 (movesOf (pruneDeadTempsActs (readingOf (mode .0)) (linesOf (now (text .entry))))) (now (moves .exit)) (length (linesOf (now (text .entry)))) ⌝ }
 {
     let mut i = 0;
     let mut o = 0;
+    let mut k = 0;
     while i < text.len() {
         let e = lines::find_byte(text, i, 10);
-        o = put_line(
+        let p = put_line(
             mode,
             &text[i..e],
             text,
@@ -255,6 +259,8 @@ fn prune_with(
             out,
             o,
         );
+        k = origins::note(moves, k, o, p);
+        o = p;
         i = lines::after(text, e);
     }
     o
@@ -269,16 +275,18 @@ fn prune_tables(
     read: &mut [u8],
     scratch: &mut [u8],
     out: &mut [u8],
+    moves: &mut [usize],
 ) -> usize
     requires { ⌜ ((now declared ≡ replicate (length (now read)) 0) × (now read ≡ replicate (length (now read)) 0))
-        × ((length (now text) ≤ length (now scratch)) × (length (unlines (pruneDeadTemps (readingOf (mode .0)) (linesOf (now text)))) ≤ length (now out))) ⌝ }
+        × ((length (now text) ≤ length (now scratch)) × ((length (unlines (pruneDeadTemps (readingOf (mode .0)) (linesOf (now text)))) ≤ length (now out)) × (length (linesOf (now text)) ≤ length (now moves)))) ⌝ }
     ensures answer { λ r. ⌜ Wrote (now (out .entry)) 0 (unlines (pruneDeadTemps (readingOf (mode .0)) (linesOf (now (text .entry))))) (now (out .exit)) r ⌝ }
     ensures memory { λ _. ⌜ now (scratch .exit) ≡ tempScratch (strictAt (mode .0)) (linesOf (now (text .entry))) (now (scratch .entry)) ⌝ }
+    ensures moves { λ _. ⌜ Wrote (now (moves .entry)) 0 (movesOf (pruneDeadTempsActs (readingOf (mode .0)) (linesOf (now (text .entry))))) (now (moves .exit)) (length (linesOf (now (text .entry)))) ⌝ }
 {
     table::claim_decls(text, declared.len(), own);
     table::flag_decls(text, own, declared);
     table::flag_used(text, own, declared, read);
-    prune_with(mode, text, own, declared, read, scratch, out)
+    prune_with(mode, text, own, declared, read, scratch, out, moves)
 }
 
 // How far the second of two bytes stands above `0`, where the first is a `t`: a digit less than ten, and no other byte.
@@ -316,7 +324,7 @@ fn has_temp(s: &[u8]) -> bool
 
 // A store of a declared temp that nothing reads goes, where its value is pure in the given mode. Each line is followed by one LF; the values of the stores
 // of temps are left in `scratch`, one over the other, without their comments. A text that names no temp stays as it is. `declared` and `read`
-// are room for the flags of temps, and `own` for the owners of those with high keys; they are left with zeros.
+// are room for the flags of temps, and `own` for the owners of those with high keys; they are left with zeros. `moves` gets the move of each line.
 pub fn prune_dead_temps(
     mode: reading::Mode,
     text: &[u8],
@@ -325,15 +333,18 @@ pub fn prune_dead_temps(
     read: &mut [u8],
     scratch: &mut [u8],
     out: &mut [u8],
+    moves: &mut [usize],
 ) -> usize
-    requires { ⌜ (length (now text) ≤ length (now scratch)) × (length (unlines (pruneDeadTemps (readingOf (mode .0)) (linesOf (now text)))) ≤ length (now out)) ⌝ }
+    requires { ⌜ (length (now text) ≤ length (now scratch)) × ((length (unlines (pruneDeadTemps (readingOf (mode .0)) (linesOf (now text)))) ≤ length (now out)) × (length (linesOf (now text)) ≤ length (now moves))) ⌝ }
     ensures answer { λ r. ⌜ Wrote (now (out .entry)) 0 (unlines (pruneDeadTemps (readingOf (mode .0)) (linesOf (now (text .entry))))) (now (out .exit)) r ⌝ }
     ensures memory { λ _. ⌜ now (scratch .exit) ≡ tempScratch (strictAt (mode .0)) (linesOf (now (text .entry))) (now (scratch .entry)) ⌝ }
     ensures tables { λ _. ⌜ (now (own .exit) ≡ replicate (length (now (own .entry))) 0)
         × ((now (declared .exit) ≡ replicate (length (now (declared .entry))) 0) × (now (read .exit) ≡ replicate (length (now (read .entry))) 0)) ⌝ }
+    ensures moves { λ _. ⌜ Wrote (now (moves .entry)) 0 (movesOf (pruneDeadTempsActs (readingOf (mode .0)) (linesOf (now (text .entry))))) (now (moves .exit)) (length (linesOf (now (text .entry)))) ⌝ }
 {
     table::wipe(own, declared, read);
     if !has_temp(text) {
+        origins::stay_lines(text, moves, 0);
         return lines::put_lines(text, out, 0);
     }
     let n = slots::shorter(declared.len(), read.len());
@@ -345,6 +356,7 @@ pub fn prune_dead_temps(
         &mut read[..n],
         scratch,
         out,
+        moves,
     );
     table::wipe(own, declared, read);
     o

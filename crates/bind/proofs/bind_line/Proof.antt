@@ -1,70 +1,50 @@
 -- `bind::bind_line` meets its contract. Assumes nothing.
-use Prim.Native.Nat.{ℕ}
 use native.Mathlib.Omega.{arith}
 use borrow.Author.Needs.{needs}
-use mathlib.Core.Path.{refl, sym, ap, _∙_}
-use mathlib.Core.Bool.{false}
-use mathlib.Core.List.{List}
-use lib.ListN.{length, getD}
-use Rattle.lines.proofs.OutLaws.{wrote-as}
-use Rattle.text.specs.Trim.{trimOf}
-use Rattle.bind.specs.Inner.Steps.{lineOf, boundAt, markRow, otherText}
-use Rattle.bind.proofs.SiteLaws.{front-other, text-other, marks-other}
+use Rattle.bind.specs.Inner.Steps.{lineOf, boundAt, markRow}
+use Rattle.bind.proofs.Moves.{site-gone, site-left}
 use Rattle.bind.proofs.bind_line.Statement.{statement}
 use Rattle.bind.proofs.bind_line.Tie as tie
 
-cut-requires : tie.Need-cut-requires
-cut-requires c κs = search needs
+bind-site-requires : tie.Need-bind-site-requires
+bind-site-requires c κs = c .before .before .before .before .before .before .before .before .before .before .pre
 
-trim-from-requires : tie.Need-trim-from-requires
-trim-from-requires c κs = search needs
-
-byte-at-requires : tie.Need-byte-at-requires
-byte-at-requires c κs = search needs
-
-slice-read-put-other : tie.Need-slice-read-put-other
-slice-read-put-other c = search needs
-
-put-other-requires : tie.Need-put-other-requires
-put-other-requires c κs =
-    let a = c .before .before .before .before .before .before .before .before .before .before .before .before .before .before .args in
-    let m = getD (a .marks .now) (a .s .row) 0 in
-    omega (arith, c .before .before .before .before .before .before .before .before .before .before .before .before .before .before .pre .1 .1, ap length (text-other (boundAt (a .text .now) (a .s) (a .blocks .now) (a .starts .now)) (markRow (a .text .now) (a .s)) (lineOf (a .text .now) (a .s)) (trimOf (lineOf (a .text .now) (a .s))) refl false (front-other (boundAt (a .text .now) (a .s) (a .blocks .now) (a .starts .now)) (lineOf (a .text .now) (a .s)) _ (c .before .before .before .before .before .cut .ensures) _ (c .before .before .before .before .trim-from .ensures) _ (c .before .before .before .byte-at .ensures) (c .before .before .if1 .taken)) refl m), ap (λ (x : List ℕ). length (otherText x m)) (c .before .before .before .before .before .cut .ensures))
+slice-write-marks : tie.Need-slice-write-marks
+slice-write-marks c = omega (arith, c .before .before .before .before .before .before .before .before .before .before .before .before .before .before .before .before .pre .1 .0, c .before .before .before .before .before .bind-site .kept .1 .1 .1 .1 .1 .1 .1 .0)
 
 same-length : tie.Need-same-length
 same-length c = search needs
 
-returns : tie.Need-returns
-returns c =
-    let a = c .before .before .before .before .before .before .before .before .before .before .before .before .before .before .before .before .before .args in
-    let m = getD (a .marks .now) (a .s .row) 0 in
-    let n = front-other (boundAt (a .text .now) (a .s) (a .blocks .now) (a .starts .now)) (lineOf (a .text .now) (a .s)) _ (c .before .before .before .before .before .before .before .before .cut .ensures) _ (c .before .before .before .before .before .before .before .trim-from .ensures) _ (c .before .before .before .before .before .before .byte-at .ensures) (c .before .before .before .before .before .if1 .taken) in
-    (wrote-as (sym (text-other (boundAt (a .text .now) (a .s) (a .blocks .now) (a .starts .now)) (markRow (a .text .now) (a .s)) (lineOf (a .text .now) (a .s)) (trimOf (lineOf (a .text .now) (a .s))) refl false n refl m ∙ ap (λ (x : List ℕ). otherText x m) (sym (c .before .before .before .before .before .before .before .before .cut .ensures)))) (c .before .before .put-other .ensures), marks-other (boundAt (a .text .now) (a .s) (a .blocks .now) (a .starts .now)) (markRow (a .text .now) (a .s)) (lineOf (a .text .now) (a .s)) (trimOf (lineOf (a .text .now) (a .s))) refl false n refl (a .marks .now))
-
-bind-decl-requires : tie.Need-bind-decl-requires
-bind-decl-requires c κs = c .before .before .before .before .before .before .before .before .before .before .before .before .before .before .pre
-
 same-length-2 : tie.Need-same-length-2
 same-length-2 c = search needs
+
+returns : tie.Need-returns
+returns c =
+    let a = c .before .before .before .before .before .before .before .before .before .before .before .before .before .before .before .before .args in
+    let w = c .before .before .before .before .before .bind-site .ensures in
+    (w .0, site-gone (boundAt (a .text .now) (a .s) (a .blocks .now) (a .starts .now)) (markRow (a .text .now) (a .s)) (lineOf (a .text .now) (a .s)) (a .marks .now) _ (a .s .row) (a .o) _ (w .0 .place) (w .1) (c .if1 .taken))
 
 same-length-3 : tie.Need-same-length-3
 same-length-3 c = search needs
 
+same-length-4 : tie.Need-same-length-4
+same-length-4 c = search needs
+
 returns-2 : tie.Need-returns-2
-returns-2 c = c .before .before .before .before .bind-decl .ensures
+returns-2 c =
+    let a = c .before .before .before .before .before .before .before .before .before .before .before .before .before .before .before .before .args in
+    let w = c .before .before .before .before .before .bind-site .ensures in
+    (w .0, site-left (boundAt (a .text .now) (a .s) (a .blocks .now) (a .starts .now)) (markRow (a .text .now) (a .s)) (lineOf (a .text .now) (a .s)) (a .marks .now) _ (a .s .row) (a .o) _ (w .0 .place) (w .1) (c .if1 .left))
 
 pub bind-line-spec : {M : Type 1} → statement M
 bind-line-spec =
     tie.close
     (tie.spec
-    cut-requires
-    trim-from-requires
-    byte-at-requires
-    slice-read-put-other
-    put-other-requires
+    bind-site-requires
+    slice-write-marks
     same-length
-    returns
-    bind-decl-requires
     same-length-2
+    returns
     same-length-3
+    same-length-4
     returns-2)

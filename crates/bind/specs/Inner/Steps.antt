@@ -7,6 +7,8 @@ use lib.ListN.{getD, set, length, take, drop}
 use lib.Dec.{eqb}
 use Rattle.lines.specs.Ascii.{ascii}
 use Rattle.lines.specs.Lf.{part, linesOf, partsOf}
+use Rattle.lines.specs.Acts.{Act, keep, become, into, gone}
+use Rattle.origins.specs.Inner.Codes.{farMove}
 use Rattle.text.specs.Trim.{fromOf, trimOf}
 use Rattle.names.specs.Names.{regOf}
 use Rattle.names.specs.declared.RegName.{RegName}
@@ -16,7 +18,7 @@ use Rattle.decls.specs.Inner.Print.{kept, declText}
 use Rattle.reading.specs.Reading.{Reading}
 use Rattle.reading.specs.Uses.{lineStores, lineUses, usedIn}
 use Rattle.bind.specs.declared.Site.{Site}
-use Rattle.bind.specs.Bind.{BlockLine, blockLines, untilHead, declCount, storeCount, markAll, marked, piecesOf, aboveIn, promoted}
+use Rattle.bind.specs.Bind.{BlockLine, blockLines, untilHead, declCount, storeCount, markAll, marked, piecesOf, aboveIn, promoted, bindAct}
 
 -- ---- a line and its region
 
@@ -107,19 +109,37 @@ unfoldable pub siteMarks : (ℕ → Bool) → (ℕ → ℕ) → List ℕ → Lis
 unfolding givesUp notedAll
 siteMarks f g l m = cond (givesUp f l) (notedAll f g (partsOf (code ",") (bodyOf (trimOf l))) m) m
 
+-- the same where the line has the row k, and 2 stands there where nothing is left of it
+unfoldable pub siteNotes : (ℕ → Bool) → (ℕ → ℕ) → List ℕ → ℕ → List ℕ → List ℕ
+unfolding siteText siteMarks
+siteNotes f g l k m = cond (eqb (length (siteText f l (getD m k 0))) 0) (set (siteMarks f g l m) k 2) (siteMarks f g l m)
+
 -- ---- marks
 
--- which lines are marked when the walk comes to them
-unfoldable pub marksGo : List BlockLine → List (List ℕ) → List Bool → List Bool
-unfolding markAll piecesOf untilHead
-marksGo [] above ms = []
-marksGo (d ∷ ss) above ms =
-    marked ms ∷ marksGo ss (d .line ∷ aboveIn d above) (markAll (piecesOf (d .line)) (aboveIn d above) d (untilHead ss) (drop 1 ms))
+-- what the table of marks says in the end: 2 of a line that goes, else 1 of one that was marked
+abbrev pub endNote : Act → Bool → ℕ
+endNote keep m = cond m 1 0
+endNote (become t) m = cond m 1 0
+endNote (into n) m = 2
+endNote gone m = 2
 
--- of all lines: which of them the pass promotes
-unfoldable pub bindMarks : Reading → List (List ℕ) → List Bool
-unfolding marksGo blockLines
-bindMarks R ls = marksGo (blockLines R ls) [] []
+-- of the lines in a walk
+unfoldable pub notesGo : List BlockLine → List (List ℕ) → List Bool → List ℕ
+unfolding bindAct markAll piecesOf untilHead
+notesGo [] above ms = []
+notesGo (d ∷ ss) above ms =
+    endNote (bindAct d (aboveIn d above) (untilHead ss) (marked ms)) (marked ms)
+    ∷ notesGo ss (d .line ∷ aboveIn d above) (markAll (piecesOf (d .line)) (aboveIn d above) d (untilHead ss) (drop 1 ms))
+
+-- of all lines
+unfoldable pub bindNotes : Reading → List (List ℕ) → List ℕ
+unfolding notesGo blockLines
+bindNotes R ls = notesGo (blockLines R ls) [] []
+
+-- the moves that it tells: a line with 2 is gone
+unfoldable pub noteMoves : List ℕ → List ℕ
+noteMoves [] = []
+noteMoves (n ∷ ns) = cond (eqb n 2) farMove 0 ∷ noteMoves ns
 
 -- ---- the tables
 

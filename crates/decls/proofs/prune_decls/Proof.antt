@@ -11,7 +11,7 @@ wipe-requires : tie.Need-wipe-requires
 wipe-requires c κs = search needs
 
 prune-with-requires : tie.Need-prune-with-requires
-prune-with-requires c κs = (wiped-most (length (c .before .before .before .before .before .before .before .before .before .before .args .seen .now)) _ (c .before .before .before .before .wipe .ensures), c .before .before .before .before .before .before .before .before .before .before .pre)
+prune-with-requires c κs = (wiped-most (length (c .before .before .before .before .before .before .before .before .before .before .before .before .args .seen .now)) _ (c .before .before .before .before .before .wipe .ensures), c .before .before .before .before .before .before .before .before .before .before .before .before .pre)
 
 wipe-requires-2 : tie.Need-wipe-requires-2
 wipe-requires-2 c κs = search needs
@@ -22,10 +22,20 @@ same-length c = search needs
 same-length-2 : tie.Need-same-length-2
 same-length-2 c = search needs
 
+same-length-3 : tie.Need-same-length-3
+same-length-3 c = search needs
+
 returns : tie.Need-returns
-returns c = (c .before .before .before .before .before .before .before .before .prune-with .ensures, c .before .before .wipe2 .ensures ∙ ap (λ (n : ℕ). replicate n 0) (c .before .before .before .before .before .before .before .before .prune-with .kept .1 .1 .0 ∙ c .before .before .before .before .before .before .before .before .before .before .before .before .before .wipe .kept .0))
+returns c = (c .before .before .before .before .before .before .before .before .before .before .prune-with .ensures .0, (c .before .before .wipe2 .ensures ∙ ap (λ (n : ℕ). replicate n 0) (c .before .before .before .before .before .before .before .before .before .before .prune-with .kept .1 .1 .0 ∙ c .before .before .before .before .before .before .before .before .before .before .before .before .before .before .before .before .wipe .kept .0), c .before .before .before .before .before .before .before .before .before .before .prune-with .ensures .1))
 
 pub prune-decls-spec : {M : Type 1} → statement M
 prune-decls-spec =
     tie.close
-    (tie.spec wipe-requires prune-with-requires wipe-requires-2 same-length same-length-2 returns)
+    (tie.spec
+    wipe-requires
+    prune-with-requires
+    wipe-requires-2
+    same-length
+    same-length-2
+    same-length-3
+    returns)

@@ -31,7 +31,7 @@ pub record Wiped (L : Limits) (a b c d e u a′ b′ c′ d′ e′ u′ : List 
   pub u-wiped : u′ ≡ blank (blockSize L) ++ drop (blockSize L) u
 
 -- the tables after an answer: all of each is used
-pub record Tables (y : Answer) (f g h v w x p q r t o f′ g′ h′ v′ w′ x′ p′ q′ r′ t′ o′ : List ℕ) : Type 0 where
+pub record Tables (y : Answer) (f g h v w x p q r t o z f′ g′ h′ v′ w′ x′ p′ q′ r′ t′ o′ z′ : List ℕ) : Type 0 where
   pub f-after : f′ ≡ workAfter y (length f) f
   pub g-after : g′ ≡ workAfter y (length g) g
   pub h-after : h′ ≡ workAfter y (length h) h
@@ -43,3 +43,4 @@ pub record Tables (y : Answer) (f g h v w x p q r t o f′ g′ h′ v′ w′ x
   pub r-after : r′ ≡ workAfter y (length r) r
   pub t-after : t′ ≡ workAfter y (length t) t
   pub o-after : o′ ≡ workAfter y (length o) o
+  pub z-after : z′ ≡ workAfter y (length z) z

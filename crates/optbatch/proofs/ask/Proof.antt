@@ -27,6 +27,9 @@ lent-of-requires-6 c κs = tt
 room-of-requires : tie.Need-room-of-requires
 room-of-requires c κs = tt
 
+room-of-requires-2 : tie.Need-room-of-requires-2
+room-of-requires-2 c κs = tt
+
 slice-relend-prefix-run : tie.Need-slice-relend-prefix-run
 slice-relend-prefix-run c = search needs
 
@@ -69,6 +72,12 @@ slice-relend-prefix-run-7 c = search needs
 slice-aggregate-run-7 : tie.Need-slice-aggregate-run-7
 slice-aggregate-run-7 c = sym (length-take-le _ _ (omega arith))
 
+slice-relend-prefix-run-8 : tie.Need-slice-relend-prefix-run-8
+slice-relend-prefix-run-8 c = search needs
+
+slice-aggregate-run-8 : tie.Need-slice-aggregate-run-8
+slice-aggregate-run-8 c = sym (length-take-le _ _ (omega arith))
+
 run-requires : tie.Need-run-requires
 run-requires c κs = tt
 
@@ -93,6 +102,9 @@ same-length-6 c = search needs
 same-length-7 : tie.Need-same-length-7
 same-length-7 c = search needs
 
+same-length-8 : tie.Need-same-length-8
+same-length-8 c = search needs
+
 returns : tie.Need-returns
 returns c = tt
 
@@ -107,6 +119,7 @@ ask-spec =
     lent-of-requires-5
     lent-of-requires-6
     room-of-requires
+    room-of-requires-2
     slice-relend-prefix-run
     slice-aggregate-run
     slice-relend-prefix-run-2
@@ -121,6 +134,8 @@ ask-spec =
     slice-aggregate-run-6
     slice-relend-prefix-run-7
     slice-aggregate-run-7
+    slice-relend-prefix-run-8
+    slice-aggregate-run-8
     run-requires
     same-length
     same-length-2
@@ -129,4 +144,5 @@ ask-spec =
     same-length-5
     same-length-6
     same-length-7
+    same-length-8
     returns)

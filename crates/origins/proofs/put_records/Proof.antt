@@ -1,12 +1,13 @@
 -- `origins::put_records` meets its contract. Assumes nothing.
 use borrow.Author.Needs.{needs}
-use Rattle.origins.proofs.Walks.{both-in, WalkInv, walk-start, q-le, q-from, x-from, x-le, walk-room, walk-on, walk-end}
+use Prim.Native.Nat.{_-_}
+use mathlib.Core.Path.{refl}
+use native.Mathlib.Omega.{arith}
+use lib.ListN.{length}
 use Rattle.lines.proofs.OutLaws.{writing-length}
 use Rattle.lines.proofs.LfLaws.{find-le}
 use Rattle.origins.specs.Form.{formShape}
-use lib.ListN.{length}
-use native.Mathlib.Omega.{arith}
-use Prim.Native.Nat.{_-_}
+use Rattle.origins.proofs.Walks.{both-in, WalkInv, walk-start, walk-room, walk-told, walk-end}
 use Rattle.origins.proofs.put_records.Statement.{statement}
 use Rattle.origins.proofs.put_records.Tie as tie
 
@@ -23,55 +24,28 @@ mul-c : tie.Need-mul-c Inv-loop μ-loop
 mul-c c = search needs
 
 shared-slice-read-c : tie.Need-shared-slice-read-c Inv-loop μ-loop
-shared-slice-read-c c = (both-in (c .before .before .loop .i) _ (c .before .before .loop .k) _ (c .before .loop-test .taken) .1)
+shared-slice-read-c c = both-in (c .before .before .loop .i) _ (c .before .before .loop .k) _ (c .before .loop-test .taken) .1
 
 find-byte-requires : tie.Need-find-byte-requires Inv-loop μ-loop
 find-byte-requires c κs = search needs
 
-out-end-requires : tie.Need-out-end-requires Inv-loop μ-loop
-out-end-requires c κs = search needs
-
-bare-end-requires : tie.Need-bare-end-requires Inv-loop μ-loop
-bare-end-requires c κs = (omega (arith, c .before .find-byte .ensures), find-le 10 (c .before .before .before .before .before .before .before .before .before .args .text .now) (c .before .before .before .before .loop .i) (c .before .find-byte .result) (c .before .before .before .before .loop .inv .i≤) (c .before .find-byte .ensures))
-
-sub-said-one : tie.Need-sub-said-one Inv-loop μ-loop
-sub-said-one c = x-from (c .before .before .before .before .before .loop .inv) (both-in (c .before .before .before .before .before .loop .i) _ (c .before .before .before .before .before .loop .k) _ (c .before .before .before .before .loop-test .taken) .0) (both-in (c .before .before .before .before .before .loop .i) _ (c .before .before .before .before .before .loop .k) _ (c .before .before .before .before .loop-test .taken) .1) (c .before .before .find-byte .result) (c .before .out-end .result) (c .bare-end .result) (c .before .before .find-byte .ensures) (c .before .out-end .ensures) (c .bare-end .ensures)
-
-part-said-one-start : tie.Need-part-said-one-start Inv-loop μ-loop
-part-said-one-start c = x-from (c .before .before .before .before .before .loop .inv) (both-in (c .before .before .before .before .before .loop .i) _ (c .before .before .before .before .before .loop .k) _ (c .before .before .before .before .loop-test .taken) .0) (both-in (c .before .before .before .before .before .loop .i) _ (c .before .before .before .before .before .loop .k) _ (c .before .before .before .before .loop-test .taken) .1) (c .before .before .find-byte .result) (c .before .out-end .result) (c .bare-end .result) (c .before .before .find-byte .ensures) (c .before .out-end .ensures) (c .bare-end .ensures)
-
-part-said-one-end : tie.Need-part-said-one-end Inv-loop μ-loop
-part-said-one-end c = x-le (c .before .before .before .before .before .loop .inv) (both-in (c .before .before .before .before .before .loop .i) _ (c .before .before .before .before .before .loop .k) _ (c .before .before .before .before .loop-test .taken) .0) (both-in (c .before .before .before .before .before .loop .i) _ (c .before .before .before .before .before .loop .k) _ (c .before .before .before .before .loop-test .taken) .1) (c .before .before .find-byte .result) (c .before .out-end .result) (c .bare-end .result) (c .before .before .find-byte .ensures) (c .before .out-end .ensures) (c .bare-end .ensures)
-
-sub-said-one-2 : tie.Need-sub-said-one-2 Inv-loop μ-loop
-sub-said-one-2 c = q-from (c .before .before .before .before .before .before .loop .inv) (both-in (c .before .before .before .before .before .before .loop .i) _ (c .before .before .before .before .before .before .loop .k) _ (c .before .before .before .before .before .loop-test .taken) .0) (both-in (c .before .before .before .before .before .before .loop .i) _ (c .before .before .before .before .before .before .loop .k) _ (c .before .before .before .before .before .loop-test .taken) .1) (c .before .before .before .find-byte .result) (c .before .before .out-end .result) (c .before .bare-end .result) (c .before .before .before .find-byte .ensures) (c .before .before .out-end .ensures) (c .before .bare-end .ensures)
-
-part-said-one-start-2 : tie.Need-part-said-one-start-2 Inv-loop μ-loop
-part-said-one-start-2 c = q-from (c .before .before .before .before .before .before .loop .inv) (both-in (c .before .before .before .before .before .before .loop .i) _ (c .before .before .before .before .before .before .loop .k) _ (c .before .before .before .before .before .loop-test .taken) .0) (both-in (c .before .before .before .before .before .before .loop .i) _ (c .before .before .before .before .before .before .loop .k) _ (c .before .before .before .before .before .loop-test .taken) .1) (c .before .before .before .find-byte .result) (c .before .before .out-end .result) (c .before .bare-end .result) (c .before .before .before .find-byte .ensures) (c .before .before .out-end .ensures) (c .before .bare-end .ensures)
-
-part-said-one-end-2 : tie.Need-part-said-one-end-2 Inv-loop μ-loop
-part-said-one-end-2 c = q-le (c .before .before .before .before .before .before .loop .inv) (both-in (c .before .before .before .before .before .before .loop .i) _ (c .before .before .before .before .before .before .loop .k) _ (c .before .before .before .before .before .loop-test .taken) .0) (both-in (c .before .before .before .before .before .before .loop .i) _ (c .before .before .before .before .before .before .loop .k) _ (c .before .before .before .before .before .loop-test .taken) .1) (c .before .before .before .find-byte .result) (c .before .before .out-end .result) (c .before .bare-end .result) (c .before .before .before .find-byte .ensures) (c .before .before .out-end .ensures) (c .before .bare-end .ensures)
-
-said-one-requires : tie.Need-said-one-requires Inv-loop μ-loop
-said-one-requires c κs = search needs
+tell-requires : tie.Need-tell-requires Inv-loop μ-loop
+tell-requires c κs = ((omega (arith, c .find-byte .ensures), find-le 10 (c .before .before .before .before .before .before .before .before .args .text .now) (c .before .before .before .loop .i) (c .find-byte .result) (c .before .before .before .loop .inv .i≤) (c .find-byte .ensures)), c .before .before .before .loop .inv .p≤)
 
 put-record-requires : tie.Need-put-record-requires Inv-loop μ-loop
-put-record-requires c κs = walk-room (c .before .before .before .before .before .before .before .before .before .loop .inv) (both-in (c .before .before .before .before .before .before .before .before .before .loop .i) _ (c .before .before .before .before .before .before .before .before .before .loop .k) _ (c .before .before .before .before .before .before .before .before .loop-test .taken) .0) (both-in (c .before .before .before .before .before .before .before .before .before .loop .i) _ (c .before .before .before .before .before .before .before .before .before .loop .k) _ (c .before .before .before .before .before .before .before .before .loop-test .taken) .1) (c .before .before .before .before .before .before .find-byte .result) (c .before .before .before .before .before .out-end .result) (c .before .before .before .before .bare-end .result) (c .before .before .before .before .before .before .find-byte .ensures) (c .before .before .before .before .before .out-end .ensures) (c .before .before .before .before .bare-end .ensures)
-
-next-out-requires : tie.Need-next-out-requires Inv-loop μ-loop
-next-out-requires c κs = search needs
+put-record-requires c κs = let t = both-in (c .before .before .before .before .before .loop .i) _ (c .before .before .before .before .before .loop .k) _ (c .before .before .before .before .loop-test .taken) in walk-room (c .before .before .before .before .before .loop .inv) (t .0) (t .1) (c .before .before .find-byte .result) _ _ (c .before .before .find-byte .ensures) refl refl
 
 add-k : tie.Need-add-k Inv-loop μ-loop
-add-k c = omega (arith, (both-in (c .before .before .before .before .before .before .before .before .before .before .before .before .before .loop .i) _ (c .before .before .before .before .before .before .before .before .before .before .before .before .before .loop .k) _ (c .before .before .before .before .before .before .before .before .before .before .before .before .loop-test .taken) .1))
+add-k c = omega (arith, both-in (c .before .before .before .before .before .before .before .before .loop .i) _ (c .before .before .before .before .before .before .before .before .loop .k) _ (c .before .before .before .before .before .before .before .loop-test .taken) .1)
 
 after-requires : tie.Need-after-requires Inv-loop μ-loop
 after-requires c κs = search needs
 
 loop-less : tie.Need-loop-less Inv-loop μ-loop
-loop-less c = omega (arith, c .after .ensures, c .before .before .before .before .before .before .before .before .before .before .before .find-byte .ensures, (both-in (c .before .before .before .before .before .before .before .before .before .before .before .before .before .before .loop .i) _ (c .before .before .before .before .before .before .before .before .before .before .before .before .before .before .loop .k) _ (c .before .before .before .before .before .before .before .before .before .before .before .before .before .loop-test .taken) .0))
+loop-less c = omega (arith, c .after .ensures, c .before .before .before .before .before .before .find-byte .ensures, both-in (c .before .before .before .before .before .before .before .before .before .loop .i) _ (c .before .before .before .before .before .before .before .before .before .loop .k) _ (c .before .before .before .before .before .before .before .before .loop-test .taken) .0)
 
 loop-again : tie.Need-loop-again Inv-loop μ-loop
-loop-again c = walk-on (c .before .before .before .before .before .before .before .before .before .before .before .before .before .before .loop .inv) (both-in (c .before .before .before .before .before .before .before .before .before .before .before .before .before .before .loop .i) _ (c .before .before .before .before .before .before .before .before .before .before .before .before .before .before .loop .k) _ (c .before .before .before .before .before .before .before .before .before .before .before .before .before .loop-test .taken) .0) (both-in (c .before .before .before .before .before .before .before .before .before .before .before .before .before .before .loop .i) _ (c .before .before .before .before .before .before .before .before .before .before .before .before .before .before .loop .k) _ (c .before .before .before .before .before .before .before .before .before .before .before .before .before .loop-test .taken) .1) (c .before .before .before .before .before .before .before .before .before .before .before .find-byte .result) (c .before .before .before .before .before .before .before .before .before .before .out-end .result) (c .before .before .before .before .before .before .before .before .before .bare-end .result) (c .before .before .before .before .before .before .before .before .before .before .before .find-byte .ensures) (c .before .before .before .before .before .before .before .before .before .before .out-end .ensures) (c .before .before .before .before .before .before .before .before .before .bare-end .ensures) _ _ _ _ _ (c .before .before .before .before .before .before .said-one .ensures) (c .before .before .before .before .put-record .ensures) (c .before .next-out .ensures) (c .after .ensures)
+loop-again c = let t = both-in (c .before .before .before .before .before .before .before .before .before .loop .i) _ (c .before .before .before .before .before .before .before .before .before .loop .k) _ (c .before .before .before .before .before .before .before .before .loop-test .taken) in walk-told (c .before .before .before .before .before .before .before .before .before .loop .inv) (t .0) (t .1) (c .before .before .before .before .before .before .find-byte .result) _ _ (c .before .before .before .before .before .before .find-byte .ensures) refl refl _ _ _ _ _ (c .before .before .before .before .before .tell .ensures .0) (c .before .before .before .put-record .ensures) (c .before .before .before .before .before .tell .ensures .1) (c .after .ensures)
 
 same-length : tie.Need-same-length Inv-loop μ-loop
 same-length c = writing-length (c .before .loop .inv .writing)
@@ -89,17 +63,8 @@ put-records-spec =
     mul-c
     shared-slice-read-c
     find-byte-requires
-    out-end-requires
-    bare-end-requires
-    sub-said-one
-    part-said-one-start
-    part-said-one-end
-    sub-said-one-2
-    part-said-one-start-2
-    part-said-one-end-2
-    said-one-requires
+    tell-requires
     put-record-requires
-    next-out-requires
     add-k
     after-requires
     loop-less

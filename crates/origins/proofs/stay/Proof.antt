@@ -1,63 +1,46 @@
 -- `origins::stay` meets its contract. Assumes nothing.
 use borrow.Author.Needs.{needs}
-use Prim.Native.Nat.{_+_, _-_, _≤_}
-use native.Mathlib.Omega.{arith}
-use lib.ListN.{length, replicate}
-use Rattle.lines.specs.Inner.Out.{Wrote}
-use Rattle.lines.proofs.OutLaws.{wrote-length}
-use Rattle.origins.proofs.Notes.{stay-start, stay-on, stay-end}
+use Rattle.origins.proofs.Notes.{stay-part}
 use Rattle.origins.proofs.stay.Statement.{statement}
 use Rattle.origins.proofs.stay.Tie as tie
 
-abbrev Inv-loop : tie.InvT-loop
-Inv-loop moves₀ k n i₀ moves i = (i ≤ n) × ((k + n ≤ length moves₀) × Wrote moves₀ k (replicate i 0) moves (k + i))
+add-wipe-words : tie.Need-add-wipe-words
+add-wipe-words c = search needs
 
-abbrev μ-loop : tie.MeasureT-loop
-μ-loop moves₀ k n i₀ moves i = n - i
+mul-wipe-words : tie.Need-mul-wipe-words
+mul-wipe-words c = search needs
 
-loop-holds : tie.Need-loop-holds Inv-loop μ-loop
-loop-holds c = (omega arith, (c .pre, stay-start _ _ (omega (arith, c .pre))))
+sub-wipe-words : tie.Need-sub-wipe-words
+sub-wipe-words c = search needs
 
-add-moves : tie.Need-add-moves Inv-loop μ-loop
-add-moves c = omega (arith, c .loop-test .taken, c .before .loop .inv .1 .0)
+part-wipe-words-start : tie.Need-part-wipe-words-start
+part-wipe-words-start c = search needs
 
-mul-moves : tie.Need-mul-moves Inv-loop μ-loop
-mul-moves c = search needs
+part-wipe-words-end : tie.Need-part-wipe-words-end
+part-wipe-words-end c = search needs
 
-slice-write-moves : tie.Need-slice-write-moves Inv-loop μ-loop
-slice-write-moves c = omega (arith, c .loop-test .taken, c .before .loop .inv .1 .0, wrote-length (c .before .loop .inv .1 .1))
+wipe-words-requires : tie.Need-wipe-words-requires
+wipe-words-requires c κs = search needs
 
-add-i : tie.Need-add-i Inv-loop μ-loop
-add-i c = omega (arith, c .loop-test .taken)
+add-result : tie.Need-add-result
+add-result c = search needs
 
-loop-less : tie.Need-loop-less Inv-loop μ-loop
-loop-less c = omega (arith, c .loop-test .taken)
+same-length : tie.Need-same-length
+same-length c = search needs
 
-loop-again : tie.Need-loop-again Inv-loop μ-loop
-loop-again c = let l = c .before .loop in (omega (arith, c .loop-test .taken), (l .inv .1 .0, stay-on _ _ (omega (arith, c .loop-test .taken, l .inv .1 .0, wrote-length (l .inv .1 .1))) (l .inv .1 .1)))
-
-add-result : tie.Need-add-result Inv-loop μ-loop
-add-result c = omega (arith, c .before .loop .inv .1 .0)
-
-same-length : tie.Need-same-length Inv-loop μ-loop
-same-length c = wrote-length (c .before .loop .inv .1 .1)
-
-returns : tie.Need-returns Inv-loop μ-loop
-returns c = let l = c .before .loop in stay-end _ _ _ (omega (arith, c .loop-test .left, l .inv .0)) (l .inv .1 .1)
+returns : tie.Need-returns
+returns c = let a = c .before .before .before .before .before .args in stay-part (a .moves .now) _ (a .k) (a .n) (c .before .before .before .before .before .pre) (c .before .before .wipe-words .ensures)
 
 pub stay-spec : {M : Type 1} → statement M
 stay-spec =
     tie.close
     (tie.spec
-    Inv-loop
-    μ-loop
-    loop-holds
-    add-moves
-    mul-moves
-    slice-write-moves
-    add-i
-    loop-less
-    loop-again
+    add-wipe-words
+    mul-wipe-words
+    sub-wipe-words
+    part-wipe-words-start
+    part-wipe-words-end
+    wipe-words-requires
     add-result
     same-length
     returns)

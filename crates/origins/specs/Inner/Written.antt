@@ -1,12 +1,12 @@
 -- What is said of lines by a table of codes, the lines that came out taken in step. Assumes nothing.
 use Prim.Native.Nat.{ℕ, suc, _-_}
 use Prim.Native.Char.{code}
-use mathlib.Core.Bool.{cond, _&&_, _||_}
+use mathlib.Core.Bool.{Bool, cond, _&&_, _||_}
 use mathlib.Core.List.{List, [], _∷_}
 use lib.ListN.{length, getD, drop}
 use lib.Dec.{eqb, ltb}
 use Rattle.lines.specs.Ascii.{ascii}
-use Rattle.lines.specs.Lf.{same, prefixed}
+use Rattle.lines.specs.Lf.{upTo, same, prefixed}
 use Rattle.origins.specs.declared.Went.{Went}
 use Rattle.origins.specs.declared.Went.the-variants.{Equal, Changed, Inside, Away}
 use Rattle.origins.specs.Inner.Codes.{farMove, half}
@@ -35,3 +35,19 @@ bareLen (x ∷ xs) =
 -- where it ends, by the place of its LF: one before it where a CR stands there
 unfoldable pub bareBy : List ℕ → ℕ → ℕ
 bareBy s n = cond (ltb 0 n && (ltb n (length s) && eqb (getD s (n - 1) 0) (code "\r"))) (n - 1) n
+
+-- ---- the same where s has the lines that came out, from the next on
+
+-- the line l stands at its front, and an LF or nothing behind it
+unfoldable pub firstIs : List ℕ → List ℕ → Bool
+unfolding prefixed
+firstIs l s = prefixed l s && eqb (getD s (length l) (code "\n")) (code "\n")
+
+-- how long the first line of it is: as long as the line l, where it is this one
+unfoldable pub firstEnd : List ℕ → List ℕ → ℕ
+unfolding firstIs
+firstEnd l s = cond (firstIs l s) (length l) (upTo (code "\n") s)
+
+unfoldable pub saidFirst : List ℕ → List ℕ → ℕ → Went
+unfolding firstIs
+saidFirst l s c = cond (ltb c half) (cond (firstIs l s) (Equal c) (Changed c)) (cond (eqb c farMove) Away (Inside (c - half)))

@@ -9,13 +9,16 @@ use Rattle.passes.proofs.chain.Statement.{statement}
 use Rattle.passes.proofs.chain.Tie as tie
 
 abbrev Inv-loop : tie.InvT-loop
-Inv-loop m text a₀ b₀ c₀ d₀ e₀ f₀ g₀ h₀ u₀ v₀ w₀ x₀ p₀ q₀ r₀ t₀ own n₀ low high to j₀ a b c d e f g h u v w x p q r t n j = ChainInv (m .limits) (m .mode .0) (m .from) to text a n j × Same a₀ b₀ c₀ d₀ e₀ f₀ g₀ h₀ u₀ v₀ w₀ x₀ p₀ q₀ r₀ t₀ a b c d e f g h u v w x p q r t
+Inv-loop m text a₀ b₀ c₀ d₀ e₀ f₀ g₀ h₀ u₀ v₀ w₀ x₀ p₀ q₀ r₀ t₀ own z₀ n₀ low high to j₀ a b c d e f g h u v w x p q r t z n j = ChainInv (m .limits) (m .mode .0) (m .from) to text a z n j × Same a₀ b₀ c₀ d₀ e₀ f₀ g₀ h₀ u₀ v₀ w₀ x₀ p₀ q₀ r₀ t₀ z₀ a b c d e f g h u v w x p q r t z
 
 abbrev μ-loop : tie.MeasureT-loop
-μ-loop m text a₀ b₀ c₀ d₀ e₀ f₀ g₀ h₀ u₀ v₀ w₀ x₀ p₀ q₀ r₀ t₀ own n₀ low high to j₀ a b c d e f g h u v w x p q r t n j = to - j
+μ-loop m text a₀ b₀ c₀ d₀ e₀ f₀ g₀ h₀ u₀ v₀ w₀ x₀ p₀ q₀ r₀ t₀ own z₀ n₀ low high to j₀ a b c d e f g h u v w x p q r t z n j = to - j
 
 split-lines-requires : tie.Need-split-lines-requires Inv-loop μ-loop
-split-lines-requires c κs = split-fits (c .before .before .before .before .before .before .before .before .before .before .before .before .before .before .before .before .before .before .before .args .text .now) (c .before .before .before .before .before .before .before .before .before .before .before .before .before .before .before .before .before .before .before .args .a .now) (c .before .before .before .before .before .before .before .before .before .before .before .before .before .before .before .before .before .before .before .pre .0) (c .before .before .before .before .before .before .before .before .before .before .before .before .before .before .before .before .before .before .before .pre .1 .0)
+split-lines-requires c κs = split-fits (c .before .before .before .before .before .before .before .before .before .before .before .before .before .before .before .before .before .before .before .before .args .text .now) (c .before .before .before .before .before .before .before .before .before .before .before .before .before .before .before .before .before .before .before .before .args .a .now) (c .before .before .before .before .before .before .before .before .before .before .before .before .before .before .before .before .before .before .before .before .pre .0) (c .before .before .before .before .before .before .before .before .before .before .before .before .before .before .before .before .before .before .before .before .pre .1 .0)
+
+start-requires : tie.Need-start-requires Inv-loop μ-loop
+start-requires c κs = search needs
 
 low-of-requires : tie.Need-low-of-requires Inv-loop μ-loop
 low-of-requires c κs = search needs
@@ -24,16 +27,16 @@ wipe-requires : tie.Need-wipe-requires Inv-loop μ-loop
 wipe-requires c κs = search needs
 
 slice-reshare-prefix-gather : tie.Need-slice-reshare-prefix-gather Inv-loop μ-loop
-slice-reshare-prefix-gather c = wrote-front (c .before .before .before .before .before .before .before .split-lines .ensures) .fits
+slice-reshare-prefix-gather c = wrote-front (c .before .before .before .before .before .before .before .before .before .before .before .split-lines .ensures) .fits
 
 slice-aggregate-gather : tie.Need-slice-aggregate-gather Inv-loop μ-loop
-slice-aggregate-gather c = let f = c .before .before .before .before .before .before .before .before .split-lines in sym (length-take-le (f .result) (f .last .1 .0) (wrote-front (f .ensures) .fits))
+slice-aggregate-gather c = let f = c .before .before .before .before .before .before .before .before .before .before .before .before .split-lines in sym (length-take-le (f .result) (f .last .1 .0) (wrote-front (f .ensures) .fits))
 
 gather-requires : tie.Need-gather-requires Inv-loop μ-loop
 gather-requires c κs = search needs
 
 loop-holds : tie.Need-loop-holds Inv-loop μ-loop
-loop-holds c = (chain-start _ _ _ (c .before .before .before .before .before .before .before .before .before .before .before .before .before .before .before .before .before .before .before .before .before .before .before .before .before .before .before .before .before .before .before .before .pre .0) (c .before .before .before .before .before .before .before .before .before .before .before .before .split-lines .ensures), record { a-same = refl; b-same = refl; c-same = refl; d-same = refl; e-same = refl; f-same = refl; g-same = refl; h-same = refl; u-same = refl; v-same = refl; w-same = refl; x-same = refl; p-same = refl; q-same = refl; r-same = refl; t-same = refl })
+loop-holds c = (chain-start _ _ _ (c .before .before .before .before .before .before .before .before .before .before .before .before .before .before .before .before .before .before .before .before .before .before .before .before .before .before .before .before .before .before .before .before .before .before .before .before .before .args .table .now) (c .before .before .before .before .before .before .before .before .before .before .before .before .before .before .before .before .before .before .before .before .before .before .before .before .before .before .before .before .before .before .before .before .before .before .before .before .before .pre .0) (c .before .before .before .before .before .before .before .before .before .before .before .before .before .before .before .before .split-lines .ensures) (c .before .before .before .before .before .before .before .before .before .before .before .before .before .before .before .before .before .before .before .before .before .before .before .before .before .before .before .before .before .before .before .before .before .before .before .before .before .pre .1 .1 .1 .1) (c .before .before .before .before .before .before .before .before .before .before .before .before .start .ensures), record { a-same = refl; b-same = refl; c-same = refl; d-same = refl; e-same = refl; f-same = refl; g-same = refl; h-same = refl; u-same = refl; v-same = refl; w-same = refl; x-same = refl; p-same = refl; q-same = refl; r-same = refl; t-same = refl; z-same = refl })
 
 slice-reshare-prefix-step : tie.Need-slice-reshare-prefix-step Inv-loop μ-loop
 slice-reshare-prefix-step c = c .before .loop .inv .0 .front .fits
@@ -45,28 +48,28 @@ front-requires : tie.Need-front-requires Inv-loop μ-loop
 front-requires c κs = search needs
 
 step-requires : tie.Need-step-requires Inv-loop μ-loop
-step-requires c κs = let h = c .before .before .before .before .before .before .before .before .before .before .before .before .before .before .before .before .before .before .before .loop .inv in let z = c .before .before .before .before .before .before .before .before .before .before .before .before .before .before .before .before .before .before .before .before .before .before .before .before .before .before .before .before .before .before .before .before .before .before .before .before .before .before .before .before .before .before .before .before .before .before .before .before .before .before .before .before .pre .1 .1 in (chain-room (h .0), (same-sized (h .1) (z .0), same-tabled (h .1) (z .1)))
+step-requires c κs = let h = c .before .before .before .before .before .before .before .before .before .before .before .before .before .before .before .before .before .before .before .before .loop .inv in let z = c .before .before .before .before .before .before .before .before .before .before .before .before .before .before .before .before .before .before .before .before .before .before .before .before .before .before .before .before .before .before .before .before .before .before .before .before .before .before .before .before .before .before .before .before .before .before .before .before .before .before .before .before .before .before .before .before .before .before .pre .1 .1 in (chain-room (h .0), (same-sized (h .1) (z .0), same-tabled (h .1) (z .1 .0)))
 
 slice-reshare-prefix-put : tie.Need-slice-reshare-prefix-put Inv-loop μ-loop
-slice-reshare-prefix-put c = wrote-front (c .before .before .before .before .before .before .before .before .before .before .before .before .before .before .before .before .before .before .before .before .before .before .before .before .before .before .before .before .before .before .before .step .ensures .0) .fits
+slice-reshare-prefix-put c = wrote-front (c .before .before .before .before .before .before .before .before .before .before .before .before .before .before .before .before .before .before .before .before .before .before .before .before .before .before .before .before .before .before .before .before .before .step .ensures .0) .fits
 
 slice-aggregate-put : tie.Need-slice-aggregate-put Inv-loop μ-loop
-slice-aggregate-put c = let f = c .before .before .before .before .before .before .before .before .before .before .before .before .before .before .before .before .before .before .before .before .before .before .before .before .before .before .before .before .before .before .before .before .step in sym (length-take-le (f .result) (f .last .1 .1 .1 .1 .0) (wrote-front (f .ensures .0) .fits))
+slice-aggregate-put c = let f = c .before .before .before .before .before .before .before .before .before .before .before .before .before .before .before .before .before .before .before .before .before .before .before .before .before .before .before .before .before .before .before .before .before .before .step in sym (length-take-le (f .result) (f .last .1 .1 .1 .1 .0) (wrote-front (f .ensures .0) .fits))
 
 put-requires : tie.Need-put-requires Inv-loop μ-loop
-put-requires c κs = let h = c .before .before .before .before .before .before .before .before .before .before .before .before .before .before .before .before .before .before .before .before .before .before .before .before .before .before .before .before .before .before .before .before .before .before .before .before .before .before .before .before .before .before .before .before .before .before .before .before .before .before .before .before .loop .inv in omega (arith, chain-fits (h .0) (omega (arith, c .before .before .before .before .before .before .before .before .before .before .before .before .before .before .before .before .before .before .before .before .before .before .before .before .before .before .before .before .before .before .before .before .before .before .before .before .before .before .before .before .before .before .before .before .before .before .before .before .before .before .before .before .before .before .before .before .before .before .before .before .before .before .before .before .before .before .before .before .before .before .before .before .before .before .before .before .before .before .before .before .before .before .before .before .before .pre .1 .0, h .1 .a-same, c .before .before .before .before .before .before .before .before .before .before .before .before .before .before .before .before .before .before .before .before .before .before .before .before .before .before .before .before .before .before .before .before .before .before .before .before .before .before .before .before .before .before .before .before .before .before .before .before .before .before .before .before .before .before .before .before .before .before .before .before .before .before .before .before .before .split-lines .kept .1 .0)) (c .before .before .before .before .before .before .before .before .before .before .before .before .before .before .before .before .before .before .before .before .before .before .before .before .before .before .before .before .before .before .before .before .step .ensures .0))
+put-requires c κs = let h = c .before .before .before .before .before .before .before .before .before .before .before .before .before .before .before .before .before .before .before .before .before .before .before .before .before .before .before .before .before .before .before .before .before .before .before .before .before .before .before .before .before .before .before .before .before .before .before .before .before .before .before .before .before .before .before .loop .inv in omega (arith, chain-fits (h .0) (omega (arith, c .before .before .before .before .before .before .before .before .before .before .before .before .before .before .before .before .before .before .before .before .before .before .before .before .before .before .before .before .before .before .before .before .before .before .before .before .before .before .before .before .before .before .before .before .before .before .before .before .before .before .before .before .before .before .before .before .before .before .before .before .before .before .before .before .before .before .before .before .before .before .before .before .before .before .before .before .before .before .before .before .before .before .before .before .before .before .before .before .before .before .before .before .before .pre .1 .0, h .1 .a-same, c .before .before .before .before .before .before .before .before .before .before .before .before .before .before .before .before .before .before .before .before .before .before .before .before .before .before .before .before .before .before .before .before .before .before .before .before .before .before .before .before .before .before .before .before .before .before .before .before .before .before .before .before .before .before .before .before .before .before .before .before .before .before .before .before .before .before .before .before .before .before .before .before .split-lines .kept .1 .0)) (c .before .before .before .before .before .before .before .before .before .before .before .before .before .before .before .before .before .before .before .before .before .before .before .before .before .before .before .before .before .before .before .before .before .before .step .ensures .0))
 
 add-j : tie.Need-add-j Inv-loop μ-loop
-add-j c = omega (arith, c .before .before .before .before .before .before .before .before .before .before .before .before .before .before .before .before .before .before .before .before .before .before .before .before .before .before .before .before .before .before .before .before .before .before .before .before .before .before .before .before .before .before .before .before .before .before .before .before .before .before .before .before .before .before .loop-test .taken, c .before .before .before .before .before .before .before .before .before .before .before .before .before .before .before .before .before .before .before .before .before .before .before .before .before .before .before .before .before .before .before .before .before .before .before .before .before .before .before .before .before .before .before .before .before .before .before .before .before .before .before .before .before .before .before .before .before .before .before .before .before .before .before .before .before .before .before .before .before .before .before .before .before .before .before .before .before .before .before .before .before .before .before .before .before .before .before .before .good)
+add-j c = omega (arith, c .before .before .before .before .before .before .before .before .before .before .before .before .before .before .before .before .before .before .before .before .before .before .before .before .before .before .before .before .before .before .before .before .before .before .before .before .before .before .before .before .before .before .before .before .before .before .before .before .before .before .before .before .before .before .before .before .before .loop-test .taken, c .before .before .before .before .before .before .before .before .before .before .before .before .before .before .before .before .before .before .before .before .before .before .before .before .before .before .before .before .before .before .before .before .before .before .before .before .before .before .before .before .before .before .before .before .before .before .before .before .before .before .before .before .before .before .before .before .before .before .before .before .before .before .before .before .before .before .before .before .before .before .before .before .before .before .before .before .before .before .before .before .before .before .before .before .before .before .before .before .before .before .before .before .before .before .before .before .good)
 
 loop-less : tie.Need-loop-less Inv-loop μ-loop
-loop-less c = omega (arith, c .before .before .before .before .before .before .before .before .before .before .before .before .before .before .before .before .before .before .before .before .before .before .before .before .before .before .before .before .before .before .before .before .before .before .before .before .before .before .before .before .before .before .before .before .before .before .before .before .before .before .before .before .before .before .loop-test .taken)
+loop-less c = omega (arith, c .before .before .before .before .before .before .before .before .before .before .before .before .before .before .before .before .before .before .before .before .before .before .before .before .before .before .before .before .before .before .before .before .before .before .before .before .before .before .before .before .before .before .before .before .before .before .before .before .before .before .before .before .before .before .before .before .before .loop-test .taken)
 
 loop-again : tie.Need-loop-again Inv-loop μ-loop
-loop-again c = let h = c .before .before .before .before .before .before .before .before .before .before .before .before .before .before .before .before .before .before .before .before .before .before .before .before .before .before .before .before .before .before .before .before .before .before .before .before .before .before .before .before .before .before .before .before .before .before .before .before .before .before .before .before .before .before .before .loop .inv in let f = c .before .before .before .before .before .before .before .before .before .before .before .before .before .before .before .before .before .before .before .before .before .before .before .before .before .before .before .before .before .before .before .before .before .before .before .step in let s = h .1 in (chain-on (h .0) (c .before .before .before .before .before .before .before .before .before .before .before .before .before .before .before .before .before .before .before .before .before .before .before .before .before .before .before .before .before .before .before .before .before .before .before .before .before .before .before .before .before .before .before .before .before .before .before .before .before .before .before .before .before .before .loop-test .taken) (f .ensures .0) (c .before .before .put .ensures), record { a-same = c .before .before .put .kept .0 ∙ s .a-same; b-same = f .kept .1 .1 .1 .1 .0 ∙ s .b-same; c-same = f .kept .1 .1 .1 .1 .1 .0 ∙ s .c-same; d-same = f .kept .1 .1 .1 .1 .1 .1 .0 ∙ s .d-same; e-same = f .kept .1 .1 .1 .1 .1 .1 .1 .0 ∙ s .e-same; f-same = f .kept .1 .1 .1 .1 .1 .1 .1 .1 .0 ∙ s .f-same; g-same = f .kept .1 .1 .1 .1 .1 .1 .1 .1 .1 .0 ∙ s .g-same; h-same = f .kept .1 .1 .1 .1 .1 .1 .1 .1 .1 .1 .0 ∙ s .h-same; u-same = f .kept .1 .1 .1 .1 .1 .1 .1 .1 .1 .1 .1 .0 ∙ s .u-same; v-same = f .kept .1 .1 .1 .1 .1 .1 .1 .1 .1 .1 .1 .1 .0 ∙ s .v-same; w-same = f .kept .1 .1 .1 .1 .1 .1 .1 .1 .1 .1 .1 .1 .1 .0 ∙ s .w-same; x-same = f .kept .1 .1 .1 .1 .1 .1 .1 .1 .1 .1 .1 .1 .1 .1 .0 ∙ s .x-same; p-same = f .kept .1 .1 .1 .1 .1 .1 .1 .1 .1 .1 .1 .1 .1 .1 .1 .0 ∙ s .p-same; q-same = f .kept .1 .1 .1 .1 .1 .1 .1 .1 .1 .1 .1 .1 .1 .1 .1 .1 .0 ∙ s .q-same; r-same = f .kept .1 .1 .1 .1 .1 .1 .1 .1 .1 .1 .1 .1 .1 .1 .1 .1 .1 .0 ∙ s .r-same; t-same = f .kept .1 .1 .1 .1 .1 .1 .1 .1 .1 .1 .1 .1 .1 .1 .1 .1 .1 .1 .0 ∙ s .t-same })
+loop-again c = let h = c .before .before .before .before .before .before .before .before .before .before .before .before .before .before .before .before .before .before .before .before .before .before .before .before .before .before .before .before .before .before .before .before .before .before .before .before .before .before .before .before .before .before .before .before .before .before .before .before .before .before .before .before .before .before .before .before .before .before .loop .inv in let f = c .before .before .before .before .before .before .before .before .before .before .before .before .before .before .before .before .before .before .before .before .before .before .before .before .before .before .before .before .before .before .before .before .before .before .before .before .before .step in let s = h .1 in (chain-on (h .0) (c .before .before .before .before .before .before .before .before .before .before .before .before .before .before .before .before .before .before .before .before .before .before .before .before .before .before .before .before .before .before .before .before .before .before .before .before .before .before .before .before .before .before .before .before .before .before .before .before .before .before .before .before .before .before .before .before .before .loop-test .taken) (f .ensures .0) (c .before .before .put .ensures) (f .ensures .1 .1 .1 .1), record { a-same = c .before .before .put .kept .0 ∙ s .a-same; b-same = f .kept .1 .1 .1 .1 .0 ∙ s .b-same; c-same = f .kept .1 .1 .1 .1 .1 .0 ∙ s .c-same; d-same = f .kept .1 .1 .1 .1 .1 .1 .0 ∙ s .d-same; e-same = f .kept .1 .1 .1 .1 .1 .1 .1 .0 ∙ s .e-same; f-same = f .kept .1 .1 .1 .1 .1 .1 .1 .1 .0 ∙ s .f-same; g-same = f .kept .1 .1 .1 .1 .1 .1 .1 .1 .1 .0 ∙ s .g-same; h-same = f .kept .1 .1 .1 .1 .1 .1 .1 .1 .1 .1 .0 ∙ s .h-same; u-same = f .kept .1 .1 .1 .1 .1 .1 .1 .1 .1 .1 .1 .0 ∙ s .u-same; v-same = f .kept .1 .1 .1 .1 .1 .1 .1 .1 .1 .1 .1 .1 .0 ∙ s .v-same; w-same = f .kept .1 .1 .1 .1 .1 .1 .1 .1 .1 .1 .1 .1 .1 .0 ∙ s .w-same; x-same = f .kept .1 .1 .1 .1 .1 .1 .1 .1 .1 .1 .1 .1 .1 .1 .0 ∙ s .x-same; p-same = f .kept .1 .1 .1 .1 .1 .1 .1 .1 .1 .1 .1 .1 .1 .1 .1 .0 ∙ s .p-same; q-same = f .kept .1 .1 .1 .1 .1 .1 .1 .1 .1 .1 .1 .1 .1 .1 .1 .1 .0 ∙ s .q-same; r-same = f .kept .1 .1 .1 .1 .1 .1 .1 .1 .1 .1 .1 .1 .1 .1 .1 .1 .1 .0 ∙ s .r-same; t-same = f .kept .1 .1 .1 .1 .1 .1 .1 .1 .1 .1 .1 .1 .1 .1 .1 .1 .1 .1 .0 ∙ s .t-same; z-same = f .kept .1 .1 .1 .1 .1 .1 .1 .1 .1 .1 .1 .1 .1 .1 .1 .1 .1 .1 .1 .0 ∙ s .z-same })
 
 same-length : tie.Need-same-length Inv-loop μ-loop
-same-length c = c .before .loop .inv .1 .a-same ∙ c .before .before .before .before .before .before .before .before .before .before .before .before .before .before .split-lines .kept .1 .0
+same-length c = c .before .loop .inv .1 .a-same ∙ c .before .before .before .before .before .before .before .before .before .before .before .before .before .before .before .before .before .before .split-lines .kept .1 .0
 
 same-length-2 : tie.Need-same-length-2 Inv-loop μ-loop
 same-length-2 c = c .before .loop .inv .1 .b-same
@@ -116,6 +119,9 @@ same-length-16 c = c .before .loop .inv .1 .t-same
 same-length-17 : tie.Need-same-length-17 Inv-loop μ-loop
 same-length-17 c = c .before .before .before .before .gather .kept .1 .1 .0 ∙ c .before .before .before .before .before .before .before .before .before .wipe .kept .0
 
+same-length-18 : tie.Need-same-length-18 Inv-loop μ-loop
+same-length-18 c = c .before .loop .inv .1 .z-same ∙ c .before .before .before .before .before .before .before .before .before .before .before .before .before .before .start .kept .0
+
 returns : tie.Need-returns Inv-loop μ-loop
 returns c = chain-end (c .before .loop .inv .0) (c .loop-test .left)
 
@@ -126,6 +132,7 @@ chain-spec =
     Inv-loop
     μ-loop
     split-lines-requires
+    start-requires
     low-of-requires
     wipe-requires
     slice-reshare-prefix-gather
@@ -159,4 +166,5 @@ chain-spec =
     same-length-15
     same-length-16
     same-length-17
+    same-length-18
     returns)

@@ -20,7 +20,7 @@ pub record Blank (a b c d e u a′ b′ c′ d′ e′ u′ : List ℕ) : Type 0
   pub u-blank : u′ ≡ blank (length u)
 
 -- every entry of the tables is 0
-pub record Unused (f g h v w x p q r t o f′ g′ h′ v′ w′ x′ p′ q′ r′ t′ o′ : List ℕ) : Type 0 where
+pub record Unused (f g h v w x p q r t o z f′ g′ h′ v′ w′ x′ p′ q′ r′ t′ o′ z′ : List ℕ) : Type 0 where
   pub f-unused : f′ ≡ blank (length f)
   pub g-unused : g′ ≡ blank (length g)
   pub h-unused : h′ ≡ blank (length h)
@@ -32,3 +32,4 @@ pub record Unused (f g h v w x p q r t o f′ g′ h′ v′ w′ x′ p′ q′
   pub r-unused : r′ ≡ blank (length r)
   pub t-unused : t′ ≡ blank (length t)
   pub o-unused : o′ ≡ blank (length o)
+  pub z-unused : z′ ≡ blank (length z)

@@ -12,6 +12,7 @@ use Rattle.phis.specs.Inner.Table.{noteLines}
 use Rattle.phis.proofs.TableLaws.{table-tells}
 use Rattle.reading.specs.Reading.{readingOf}
 use Rattle.phis.proofs.Whole.{none-round, calm-dead}
+use Rattle.phis.proofs.Moves.{none-thin}
 use Rattle.phis.proofs.put_round.Statement.{statement}
 use Rattle.phis.proofs.put_round.Tie as tie
 
@@ -20,17 +21,17 @@ may-change-requires c κs = search needs
 
 put-lines-requires : tie.Need-put-lines-requires
 put-lines-requires c κs =
-    let a = c .before .before .before .before .before .before .before .before in
-    omega (arith, a .pre .1 .1, ap length (none-round (readingOf (a .args .mode .0)) (a .args .text .now) (calm-dead (a .args .text .now) (a .args .dead) (a .pre .0) (so (c .before .before .may-change .ensures) (not-true _ (c .before .if1 .taken))))))
+    let a = c .before .before .before .before .before .before .before .before .before .args in
+    omega (arith, c .before .before .before .before .before .before .before .before .before .pre .1 .1 .0, ap length (none-round (readingOf (a .mode .0)) (a .text .now) (calm-dead (a .text .now) (a .dead) (c .before .before .before .before .before .before .before .before .before .pre .0) (so (c .before .before .may-change .ensures) (not-true _ (c .before .if1 .taken))))))
 
 same-length : tie.Need-same-length
 same-length c = search needs
 
 returns : tie.Need-returns
 returns c =
-    let a = c .before .before .before .before .before .before .before .before .before .before .before in
-    let k = calm-dead (a .args .text .now) (a .args .dead) (a .pre .0) (so (c .before .before .before .before .before .may-change .ensures) (not-true _ (c .before .before .before .before .if1 .taken))) in
-    (wrote-as (none-round (readingOf (a .args .mode .0)) (a .args .text .now) k) (c .before .before .put-lines .ensures), (sym k, refl))
+    let a = c .before .before .before .before .before .before .before .before .before .before .before .before .args in
+    let k = calm-dead (a .text .now) (a .dead) (c .before .before .before .before .before .before .before .before .before .before .before .before .pre .0) (so (c .before .before .before .before .before .may-change .ensures) (not-true _ (c .before .before .before .before .if1 .taken))) in
+    (wrote-as (none-round (readingOf (a .mode .0)) (a .text .now) k) (c .before .before .put-lines .ensures), (sym k, (refl, none-thin (readingOf (a .mode .0)) (a .text .now) (a .moves .now) k)))
 
 wipe-requires : tie.Need-wipe-requires
 wipe-requires c κs = search needs
@@ -40,9 +41,9 @@ note-lines-requires c κs = search needs
 
 put-with-requires : tie.Need-put-with-requires
 put-with-requires c κs =
-    let a = c .before .before .before .before .before .before .before .before .before .before .before .before .before .before .before .before .before .before .args in
+    let a = c .before .before .before .before .before .before .before .before .before .before .before .before .before .before .before .before .before .before .before .before .args in
     let n = length (a .table .now) in
-    (table-tells (a .own .now) (linesOf (a .text .now)) n _ (c .before .before .before .before .before .note-lines .ensures ∙ ap (noteLines (a .own .now) (linesOf (a .text .now))) (wrote-whole (c .before .before .before .before .before .before .before .before .before .wipe .ensures) (length-replicate {A = ℕ} n 0))), c .before .before .before .before .before .before .before .before .before .before .before .before .before .before .before .before .before .before .pre .1)
+    (table-tells (a .own .now) (linesOf (a .text .now)) n _ (c .before .before .before .before .before .before .note-lines .ensures ∙ ap (noteLines (a .own .now) (linesOf (a .text .now))) (wrote-whole (c .before .before .before .before .before .before .before .before .before .before .wipe .ensures) (length-replicate {A = ℕ} n 0))), c .before .before .before .before .before .before .before .before .before .before .before .before .before .before .before .before .before .before .before .before .pre .1)
 
 same-length-2 : tie.Need-same-length-2
 same-length-2 c = search needs
@@ -52,6 +53,9 @@ same-length-3 c = search needs
 
 same-length-4 : tie.Need-same-length-4
 same-length-4 c = search needs
+
+same-length-5 : tie.Need-same-length-5
+same-length-5 c = search needs
 
 returns-2 : tie.Need-returns-2
 returns-2 c = search needs
@@ -70,4 +74,5 @@ put-round-spec =
     same-length-2
     same-length-3
     same-length-4
+    same-length-5
     returns-2)

@@ -7,7 +7,7 @@ use Rattle.steps.proofs.phis_step.Statement.{statement}
 use Rattle.steps.proofs.phis_step.Tie as tie
 
 prune-dead-phis-requires : tie.Need-prune-dead-phis-requires
-prune-dead-phis-requires c κs = let p = c .before .before .before .before .before .before .before .before .before .before .before .before .pre in phis-room (readingOf (c .before .before .before .before .before .before .before .before .before .before .before .before .args .m .mode .0)) (p .0) (p .1)
+prune-dead-phis-requires c κs = let p = c .before .before .before .before .before .before .before .before .before .before .before .before .before .before .pre in phis-room (readingOf (c .before .before .before .before .before .before .before .before .before .before .before .before .before .before .args .m .mode .0)) (p .0) (p .1)
 
 same-length : tie.Need-same-length
 same-length c = search needs
@@ -24,8 +24,11 @@ same-length-4 c = search needs
 same-length-5 : tie.Need-same-length-5
 same-length-5 c = search needs
 
+same-length-6 : tie.Need-same-length-6
+same-length-6 c = search needs
+
 returns : tie.Need-returns
-returns c = let p = c .before .before .before .before .before .before .before .before .before .before .prune-dead-phis .ensures in (p .0, (phis-left _ _ (p .1 .1 .1 .0) (p .1 .0) (p .1 .1 .0), p .1 .1 .1 .1))
+returns c = let p = c .before .before .before .before .before .before .before .before .before .before .before .before .prune-dead-phis .ensures in (p .0, (phis-left _ _ (p .1 .1 .1 .0) (p .1 .0) (p .1 .1 .0), (p .1 .1 .1 .1 .0, p .1 .1 .1 .1 .1)))
 
 pub phis-step-spec : {M : Type 1} → statement M
 phis-step-spec =
@@ -37,4 +40,5 @@ phis-step-spec =
     same-length-3
     same-length-4
     same-length-5
+    same-length-6
     returns)

@@ -27,11 +27,12 @@ pub record Sized (L : Limits) (b c d e u : List ℕ) : Type 0 where
   pub u-narrow : length u < 2 ^ 32
 
 -- the tables that have an entry for each line, and the three over registers that are of one length
-pub record Tabled (L : Limits) (f g v w x p q r : List ℕ) : Type 0 where
+pub record Tabled (L : Limits) (f g v w x p q r t : List ℕ) : Type 0 where
   pub f-lines : L .lines ≤ length f
   pub g-lines : L .lines ≤ length g
   pub p-lines : L .lines ≤ length p
   pub q-lines : L .lines ≤ length q
   pub r-lines : L .lines ≤ length r
+  pub t-lines : L .lines ≤ length t
   pub w-as-v : length w ≡ length v
   pub w-as-x : length w ≡ length x

@@ -72,10 +72,7 @@ usesH k = eqb k 2
 abbrev pub usesV : ℕ → Bool
 usesV k = eqb k 2 || eqb k 4
 
--- and those of numbers
-abbrev pub usesP : ℕ → Bool
-usesP k = eqb k 2 || (eqb k 4 || eqb k 6)
-
+-- and those of numbers: every step has its moves in p
 abbrev pub usesQ : ℕ → Bool
 usesQ k = eqb k 1 || (eqb k 2 || (eqb k 4 || eqb k 6))
 
@@ -83,7 +80,7 @@ abbrev pub usesR : ℕ → Bool
 usesR k = eqb k 2 || (eqb k 4 || (eqb k 5 || eqb k 6))
 
 abbrev pub usesT : ℕ → Bool
-usesT k = eqb k 6
+usesT k = eqb k 2 || eqb k 6
 
 -- the tables after step k, but for t
 pub record Cleared (k : ℕ) (f g h v w x p q r f′ g′ h′ v′ w′ x′ p′ q′ r′ : List ℕ) : Type 0 where
@@ -93,7 +90,7 @@ pub record Cleared (k : ℕ) (f g h v w x p q r f′ g′ h′ v′ w′ x′ p�
   pub v-left : v′ ≡ cleared (usesV k) v
   pub w-left : w′ ≡ cleared (usesV k) w
   pub x-left : x′ ≡ cleared (usesV k) x
-  pub p-left : p′ ≡ cleared (usesP k) p
+  pub p-left : p′ ≡ replicate (length p) 0
   pub q-left : q′ ≡ cleared (usesQ k) q
   pub r-left : r′ ≡ cleared (usesR k) r
 

@@ -19,12 +19,12 @@ flag-used-requires c κs = search needs
 
 prune-with-requires : tie.Need-prune-with-requires
 prune-with-requires c κs =
-    let p = c .before .before .before .before .before .before .before .before .before .before .before .before .before .before .before .before .before .before .before .before .before .before .before .before .before .before .pre in
-    let ls = linesOf (c .before .before .before .before .before .before .before .before .before .before .before .before .before .before .before .before .before .before .before .before .before .before .before .before .before .before .args .text .now) in
-    let k = length (c .before .before .before .before .before .before .before .before .before .before .before .before .before .before .before .before .before .before .before .before .before .before .before .before .before .before .args .read .now) in
-    let o = c .before .before .before .before .before .before .before .before .before .before .before .before .before .before .before .before .before .before .claim-decls .last .1 .1 .0 in
-    let d = c .before .before .before .before .before .before .before .before .before .before .before .before .before .flag-decls .ensures ∙ ap (flagDecls o ls) (p .0 .0) in
-    let u = c .before .before .before .before .before .before .before .flag-used .ensures ∙ ap (readsIf o (c .before .before .before .before .before .before .before .before .before .before .before .before .before .flag-decls .last .1 .1 .0) ls) (p .0 .1) in
+    let p = c .before .before .before .before .before .before .before .before .before .before .before .before .before .before .before .before .before .before .before .before .before .before .before .before .before .before .before .before .pre in
+    let ls = linesOf (c .before .before .before .before .before .before .before .before .before .before .before .before .before .before .before .before .before .before .before .before .before .before .before .before .before .before .before .before .args .text .now) in
+    let k = length (c .before .before .before .before .before .before .before .before .before .before .before .before .before .before .before .before .before .before .before .before .before .before .before .before .before .before .before .before .args .read .now) in
+    let o = c .before .before .before .before .before .before .before .before .before .before .before .before .before .before .before .before .before .before .before .claim-decls .last .1 .1 .0 in
+    let d = c .before .before .before .before .before .before .before .before .before .before .before .before .before .before .flag-decls .ensures ∙ ap (flagDecls o ls) (p .0 .0) in
+    let u = c .before .before .before .before .before .before .before .before .flag-used .ensures ∙ ap (readsIf o (c .before .before .before .before .before .before .before .before .before .before .before .before .before .before .flag-decls .last .1 .1 .0) ls) (p .0 .1) in
     ((p .1 .0, (tells-declared o ls k _ d, tells-read o ls k _ _ d u)), p .1 .1)
 
 same-length : tie.Need-same-length
@@ -42,6 +42,9 @@ same-length-4 c = search needs
 same-length-5 : tie.Need-same-length-5
 same-length-5 c = search needs
 
+same-length-6 : tie.Need-same-length-6
+same-length-6 c = search needs
+
 returns : tie.Need-returns
 returns c = search needs
 
@@ -58,4 +61,5 @@ prune-tables-spec =
     same-length-3
     same-length-4
     same-length-5
+    same-length-6
     returns)
