@@ -118,7 +118,7 @@ unfolding standing
 land-end m₀ m zero s h q = h .are ∙ ap (landGo m₀) (h .above)
 land-end m₀ m (suc k) s h q = absurd (omega arith)
 
-land-length : (m : List ℕ) (o : ℕ) → length (landGo m o) ≡ length m
+pub land-length : (m : List ℕ) (o : ℕ) → length (landGo m o) ≡ length m
 unfolding landGo
 land-length [] o = refl
 land-length (x ∷ m) o = go (eqb x 0) (land-length m (suc o)) (land-length m o)
@@ -226,7 +226,7 @@ unfolding through
 through-append [] ys gs = refl
 through-append (x ∷ xs) ys gs = ap (λ (r : List ℕ). onCode gs x ∷ r) (through-append xs ys gs)
 
-through-length : (xs gs : List ℕ) → length (through xs gs) ≡ length xs
+pub through-length : (xs gs : List ℕ) → length (through xs gs) ≡ length xs
 unfolding through
 through-length [] gs = refl
 through-length (x ∷ xs) gs = ap suc (through-length xs gs)

@@ -100,7 +100,7 @@ pub fn note_next(moves: &mut [usize], k: usize, o: usize, p: usize) -> usize
 }
 
 // How many lines stand, by their moves.
-fn count_standing(moves: &[usize]) -> usize
+pub fn count_standing(moves: &[usize]) -> usize
     ensures { λ r. ⌜ r ≡ standing (now (moves .entry)) ⌝ }
 {
     let mut n = 0;
