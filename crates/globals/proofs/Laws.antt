@@ -160,7 +160,7 @@ keep-acts (m ∷ ms) h =
     rw (line-lack m (not-false _ (not-true _ (and-left (not (not (lacks 95 m))) _ h)))) (keep-acts ms (and-right (not (not (lacks 95 m))) _ h))
 
 module _ (t : List ℕ) (h : lacks 95 t ≡ true) where
-  keeps-all : all keeps (globalsActs (linesOf t)) ≡ true
+  pub keeps-all : all keeps (globalsActs (linesOf t)) ≡ true
   keeps-all =
       keep-acts (linesOf t) (lines-lack (λ (l : List ℕ). not (lacks 95 l)) (λ (x : ℕ) (s : List ℕ) e. ap not (lacks-cons 95 x s (not-false _ e) .1)) (λ (n : ℕ) (s : List ℕ) e. ap not (front-lacks 95 n s (not-false _ e))) t (ap not h))
 

@@ -1,10 +1,10 @@
 -- Laws of running passes one after the other over the front of a buffer. Assumes nothing.
 use Prim.Native.Nat.{ℕ, zero, suc, _+_, _-_, _≤_, _<_}
 use mathlib.Core.Path.{_≡_, refl, sym, ap, _∙_}
-use mathlib.Core.List.{List}
+use mathlib.Core.List.{List, _∷_}
 use native.Mathlib.Omega.{arith}
 use native.Mathlib.Numerals.{add-one}
-use lib.ListN.{length, take, length-take}
+use lib.ListN.{length, take, replicate, length-take, length-replicate}
 use Rattle.lines.specs.Lf.{linesOf, unlines}
 use Rattle.lines.specs.Inner.Out.{Wrote}
 use Rattle.lines.specs.Steps.{splitLines}
@@ -12,7 +12,7 @@ use Rattle.lines.proofs.LfLaws.{lines-unlines}
 use Rattle.lines.proofs.StepLaws.{split-room}
 use Rattle.lines.proofs.OutLaws.{wrote-length, wrote-part}
 use Rattle.origins.specs.Inner.Fates.{Fate, follow, staying}
-use Rattle.origins.specs.Inner.Codes.{half, codesOf, through}
+use Rattle.origins.specs.Inner.Codes.{half, codeOf, codesOf, landGo, through, standing}
 use Rattle.origins.proofs.FateLaws.{follow-assoc, stay-follow, follow-stay}
 use Rattle.origins.proofs.CodeLaws.{through-follow}
 use Rattle.reading.specs.Reading.{Reading, readingOf}
@@ -20,7 +20,11 @@ use Rattle.reading.proofs.ByLine.{ByLine, mode-by-line}
 use Rattle.steps.specs.Step.{stepOf, stepFates}
 use Rattle.steps.specs.Inner.Bounds.{Bounded, Sized, Tabled}
 use Rattle.steps.proofs.Tame.{tame-step, room-fits}
+use Rattle.origins.proofs.Thins.{standing-zeros}
+use Rattle.steps.specs.Inner.Few.{trailed, idleIn}
 use Rattle.steps.proofs.Traces.{lines-half}
+use Rattle.steps.proofs.Trails.{step-led}
+use Rattle.steps.proofs.Idling.{idle-lines, idle-trail}
 use Rattle.steps.proofs.Goings.{Goes, goes-under, goes-then, goes-stay, step-goes}
 use Rattle.passes.specs.Inner.Passes.{stepsOf, stepsFates}
 use Rattle.limits.specs.declared.Limits.{Limits}
@@ -89,7 +93,7 @@ unfolding stepsOf stepsFates
 steps-goes c k zero ls = goes-stay (length ls)
 steps-goes {R} c k (suc n) ls = goes-then (step-goes c ls k) (steps-goes c (suc k) n (stepOf R k ls))
 
--- the lines are at the front of a, and z has the codes of the text's lines among them
+-- the lines are at the front of a, and z has the raw moves of the text's lines, which lead to them
 pub record ChainInv (L : Limits) (mode k to : ℕ) (t a z : List ℕ) (n j : ℕ) : Type 0 where
   pub taken : Within L t
   pub now-lines : List (List ℕ)
@@ -97,7 +101,9 @@ pub record ChainInv (L : Limits) (mode k to : ℕ) (t a z : List ℕ) (n j : ℕ
   pub front : Front a n (unlines now-lines)
   pub so-far : stepsOf (readingOf mode) j (to - j) now-lines ≡ stepsOf (readingOf mode) k (to - k) (splitLines t)
   pub now-fates : List Fate
-  pub coded : z ≡ codesOf now-fates
+  pub coded : landGo z 0 ≡ codesOf now-fates
+  pub stood : standing z ≡ length now-lines
+  pub few : length z < half
   pub goes : Goes (length (splitLines t)) (length now-lines) now-fates
   pub so-went : follow now-fates (stepsFates (readingOf mode) j (to - j) now-lines) ≡ stepsFates (readingOf mode) k (to - k) (splitLines t)
 
@@ -109,18 +115,31 @@ stay-steps mode k n ls =
     let fs : List Fate = stepsFates (readingOf mode) k n ls in
     ap (λ (i : ℕ). follow (staying i 0) fs) (sym (steps-goes (mode-by-line mode) k n ls .many)) ∙ stay-follow fs
 
-pub chain-start : {L : Limits} (mode k to : ℕ) (z : List ℕ) {t a a′ z′ : List ℕ} {n : ℕ} → Within L t → Wrote a 0 (unlines (splitLines t)) a′ n → length z ≡ length (splitLines t) → z′ ≡ codesOf (staying (length z) 0) → ChainInv L mode k to t a′ z′ n k
-chain-start mode k to z {t} h w q e = record {
-  taken = h;
-  now-lines = splitLines t;
-  between = between-start t h;
-  front = wrote-front w;
-  so-far = refl;
-  now-fates = staying (length (splitLines t)) 0;
-  coded = e ∙ ap (λ (i : ℕ). codesOf (staying i 0)) q;
-  goes = goes-stay (length (splitLines t));
-  so-went = stay-steps mode k (to - k) (splitLines t);
-}
+land-zeros : (n o : ℕ) → landGo (replicate n 0) o ≡ codesOf (staying n o)
+unfolding landGo codesOf codeOf staying
+land-zeros zero o = refl
+land-zeros (suc n) o = ap (λ (l : List ℕ). o ∷ l) (land-zeros n (suc o))
+
+start-few : {L : Limits} (t : List ℕ) → Within L t → length (splitLines t) < half
+start-few t h = let b = between-start t h in omega (arith, lines-half (between-room h b), ap length (lines-unlines (splitLines t) (b .clean)))
+
+pub chain-start : {L : Limits} (mode k to : ℕ) (z : List ℕ) {t a a′ z′ : List ℕ} {n : ℕ} → Within L t → Wrote a 0 (unlines (splitLines t)) a′ n → length z ≡ length (splitLines t) → z′ ≡ replicate (length z) 0 → ChainInv L mode k to t a′ z′ n k
+chain-start mode k to z {t} {z′ = z′} h w q e =
+    let m : ℕ = length (splitLines t) in
+    let y : z′ ≡ replicate m 0 = e ∙ ap (λ (i : ℕ). replicate i 0) q in
+    record {
+      taken = h;
+      now-lines = splitLines t;
+      between = between-start t h;
+      front = wrote-front w;
+      so-far = refl;
+      now-fates = staying m 0;
+      coded = ap (λ (l : List ℕ). landGo l 0) y ∙ land-zeros m 0;
+      stood = ap standing y ∙ standing-zeros m;
+      few = omega (arith, start-few t h, ap length y, length-replicate {A = ℕ} m 0);
+      goes = goes-stay m;
+      so-went = stay-steps mode k (to - k) (splitLines t);
+    }
 
 steps-more : (R : Reading) (j m : ℕ) (ls : List (List ℕ)) → stepsOf R j (suc m) ls ≡ stepsOf R (suc j) m (stepOf R j ls)
 unfolding stepsOf
@@ -158,26 +177,27 @@ module _ {L : Limits} {mode k to : ℕ} {t a z : List ℕ} {n j : ℕ} (h : Chai
   lines-few : length (h .now-lines) < half
   lines-few = omega (arith, lines-half chain-room, ap length lines-at)
 
-  -- a pass from the front of a into b, and what it wrote back to the front of a
-  pub chain-on : {b a′ b′ z′ : List ℕ} {r m : ℕ} → j < to → Wrote b 0 (unlines (stepOf (readingOf mode) j (linesOf (take n a)))) b′ r → Wrote a 0 (take r b′) a′ m →
-      z′ ≡ through z (codesOf (stepFates (readingOf mode) j (linesOf (take n a)))) → ChainInv L mode k to t a′ z′ m (j + 1)
-  chain-on l w v e =
+  -- a step: its lines are at the front of a buffer, and the raw moves are taken on
+  chain-next : {a′ z′ : List ℕ} {m : ℕ} → j < to → Front a′ m (unlines (stepOf (readingOf mode) j (h .now-lines))) → z′ ≡ trailed (readingOf mode) j (h .now-lines) z → ChainInv L mode k to t a′ z′ m (j + 1)
+  chain-next {z′ = z′} l f e =
       let R : Reading = readingOf mode in
-      let f = front-copied (wrote-front w) v in
       let ls : List (List ℕ) = h .now-lines in
       let fs : List Fate = h .now-fates in
       let i : ℕ = to - (j + 1) in
       let y : to - j ≡ suc (to - (j + 1)) = omega arith in
+      let led = step-led (mode-by-line mode) j ls z (h .stood) (h .few) in
       record {
         taken = h .taken;
         now-lines = stepOf R j ls;
         between = between-on (tame-step (mode-by-line mode) j) (h .between);
-        front = record { fits = f .fits; is = f .is ∙ ap (λ (ms : List (List ℕ)). unlines (stepOf R j ms)) lines-at };
+        front = f;
         so-far = ap (λ (b : ℕ). stepsOf R b i (stepOf R j ls)) (add-one j) ∙ sym (steps-more R j i ls) ∙ ap (λ (m : ℕ). stepsOf R j m ls) (sym y) ∙ h .so-far;
         now-fates = follow fs (stepFates R j ls);
         coded =
-            e ∙ ap (λ (ms : List (List ℕ)). through z (codesOf (stepFates R j ms))) lines-at ∙ ap (λ (x : List ℕ). through x (codesOf (stepFates R j ls))) (h .coded)
+            ap (λ (x : List ℕ). landGo x 0) e ∙ led .leads ∙ ap (λ (x : List ℕ). through x (codesOf (stepFates R j ls))) (h .coded)
             ∙ step-codes (mode-by-line mode) j ls lines-few (h .goes);
+        stood = ap standing e ∙ led .left;
+        few = omega (arith, ap length e, led .long, h .few);
         goes = goes-then (h .goes) (step-goes (mode-by-line mode) ls j);
         so-went =
             ap (λ (b : ℕ). follow (follow fs (stepFates R j ls)) (stepsFates R b i (stepOf R j ls))) (add-one j)
@@ -186,7 +206,27 @@ module _ {L : Limits} {mode k to : ℕ} {t a z : List ℕ} {n j : ℕ} (h : Chai
             ∙ h .so-went;
       }
 
-  pub chain-end : to ≤ j → Front a n (unlines (stepsOf (readingOf mode) k (to - k) (splitLines t))) × (z ≡ codesOf (stepsFates (readingOf mode) k (to - k) (splitLines t)))
+  -- a pass from the front of a into b, and what it wrote back to the front of a
+  pub chain-on : {b a′ b′ z′ : List ℕ} {r m : ℕ} → j < to → Wrote b 0 (unlines (stepOf (readingOf mode) j (linesOf (take n a)))) b′ r → Wrote a 0 (take r b′) a′ m →
+      z′ ≡ trailed (readingOf mode) j (linesOf (take n a)) z → ChainInv L mode k to t a′ z′ m (j + 1)
+  chain-on l w v e =
+      let R : Reading = readingOf mode in
+      let f = front-copied (wrote-front w) v in
+      chain-next l (record { fits = f .fits; is = f .is ∙ ap (λ (ms : List (List ℕ)). unlines (stepOf R j ms)) lines-at }) (e ∙ ap (λ (ms : List (List ℕ)). trailed R j ms z) lines-at)
+
+  -- a pass that plainly changes nothing
+  pub chain-idle : j < to → idleIn j (take n a) ≡ true → ChainInv L mode k to t a z n (j + 1)
+  chain-idle l i =
+      let R : Reading = readingOf mode in
+      let ls : List (List ℕ) = h .now-lines in
+      let same : stepOf R j ls ≡ ls = ap (stepOf R j) (sym lines-at) ∙ idle-lines R (take n a) z j i ∙ lines-at in
+      chain-next l (record { fits = h .front .fits; is = h .front .is ∙ ap unlines (sym same) }) (sym (ap (λ (ms : List (List ℕ)). trailed R j ms z) (sym lines-at) ∙ idle-trail R (take n a) z j i))
+
+  -- how many lines there are
+  pub chain-rows : {r : ℕ} → r ≡ standing z → r ≡ length (linesOf (take n a))
+  chain-rows e = e ∙ h .stood ∙ ap length (sym lines-at)
+
+  pub chain-end : to ≤ j → Front a n (unlines (stepsOf (readingOf mode) k (to - k) (splitLines t))) × (landGo z 0 ≡ codesOf (stepsFates (readingOf mode) k (to - k) (splitLines t)))
   chain-end l =
       let R : Reading = readingOf mode in
       let y : to - j ≡ 0 = omega arith in

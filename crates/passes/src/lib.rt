@@ -59,38 +59,45 @@ fn chain(
     ensures origins { λ _. ⌜ now (table .exit) ≡ codesOf (stepsFates (readingOf (m .mode .0)) (m .from) (m .to - m .from) (splitLines (now (text .entry)))) ⌝ }
 {
     let mut n = lines::split_lines(text, a);
-    origins::start(table);
+    slots::wipe(table);
     let low = slots::low_of(r.len(), own.len());
     slots::wipe(own);
     let high = slots::gather::gather(&a[..n], low, own);
     let to = m.to;
     let mut j = m.from;
     while j < to {
-        let k = steps::step(
-            j,
-            m,
-            &a[..n],
-            front(own, high),
-            b,
-            c,
-            d,
-            e,
-            f,
-            g,
-            h,
-            u,
-            v,
-            w,
-            x,
-            p,
-            q,
-            r,
-            t,
-            table,
-        );
-        n = lines::put(a, 0, &b[..k]);
-        j += 1;
+        if steps::idle(j, &a[..n]) {
+            j += 1;
+        } else {
+            let rows = origins::count_standing(table);
+            let k = steps::step(
+                j,
+                m,
+                rows,
+                &a[..n],
+                front(own, high),
+                b,
+                c,
+                d,
+                e,
+                f,
+                g,
+                h,
+                u,
+                v,
+                w,
+                x,
+                p,
+                q,
+                r,
+                t,
+                table,
+            );
+            n = lines::put(a, 0, &b[..k]);
+            j += 1;
+        }
     }
+    origins::land(table);
     n
 }
 

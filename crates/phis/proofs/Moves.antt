@@ -20,7 +20,7 @@ use Rattle.reading.specs.Reading.{Reading}
 use Rattle.phis.specs.Phis.{anyDead, phiAct, phiActs, keeps, roundActs, round, pruneDeadPhis}
 use Rattle.phis.specs.Inner.Rounds.{changeText}
 use Rattle.phis.specs.Inner.Moves.{pruneDeadPhisActs}
-use Rattle.phis.proofs.Keeps.{none-into}
+use Rattle.phis.proofs.Keeps.{none-into, none-dead}
 
 -- ---- the acts of a round
 
@@ -236,3 +236,24 @@ pub three-moves : (R : Reading) (ls xs ys : List (List ℕ)) {m m₀ m₁ m₂ m
     m₃ ≡ thin m₂ (movesOf (roundActs R ys)) → Wrote m 0 (movesOf (pruneDeadPhisActs R ls)) m₃ (length ls)
 three-moves R ls xs ys {m₁ = m₁} {m₂ = m₂} e f w a b c =
     three R ls w a (b ∙ ap (λ (z : List (List ℕ)). thin m₁ (movesOf (roundActs R z))) e) (c ∙ ap (λ (z : List (List ℕ)). thin m₂ (movesOf (roundActs R z))) (f ∙ ap (round R) e))
+
+-- ---- lines of which no phi is dead: nothing moves
+
+module _ (R : Reading) (ls : List (List ℕ)) (h : anyDead ls ls ≡ false) where
+  pub calm-lines : pruneDeadPhis R ls ≡ ls
+  unfolding pruneDeadPhis
+  calm-lines = let e : round R ls ≡ ls = none-dead R ls h in ap (λ (r : List (List ℕ)). round R (round R r)) e ∙ ap (round R) e ∙ e
+
+  calm-round : movesOf (roundActs R ls) ≡ replicate (length ls) 0
+  unfolding roundActs
+  calm-round = rw h (keeps-moves ls)
+
+  pub calm-moves : movesOf (pruneDeadPhisActs R ls) ≡ replicate (length ls) 0
+  calm-moves =
+      let e : round R ls ≡ ls = none-dead R ls h in
+      let n : ℕ = length ls in
+      let stay : (m : List ℕ) → thin m (movesOf (roundActs R ls)) ≡ m = λ m. ap (thin m) calm-round ∙ thin-stay m n in
+      phis-moves R ls
+      ∙ ap (λ (r : List (List ℕ)). thin (thin (movesOf (roundActs R ls)) (movesOf (roundActs R r))) (movesOf (roundActs R (round R r)))) e
+      ∙ ap (λ (r : List (List ℕ)). thin (thin (movesOf (roundActs R ls)) (movesOf (roundActs R ls))) (movesOf (roundActs R r))) e
+      ∙ stay (thin (movesOf (roundActs R ls)) (movesOf (roundActs R ls))) ∙ stay (movesOf (roundActs R ls)) ∙ calm-round

@@ -416,6 +416,13 @@ fn put_with(
     Round { end: o, dead: true }
 }
 
+// Whether a text holds the letters `phi`.
+pub fn holds_phi(text: &[u8]) -> bool
+    ensures { λ r. ⌜ r ≡ holds phiWord (now (text .entry)) ⌝ }
+{
+    table::has_phi(text)
+}
+
 // Whether a round may find a dead phi, where the one before found one.
 fn may_change(text: &[u8], dead: bool) -> bool
     ensures { λ r. ⌜ r ≡ dead && holds phiWord (now (text .entry)) ⌝ }

@@ -4,7 +4,7 @@ use mathlib.Core.Path.{_≡_, refl, sym, ap, _∙_}
 use mathlib.Core.Bool.{Bool, true, false, cond, _&&_}
 use mathlib.Core.List.{List, [], _∷_}
 use native.Mathlib.Omega.{arith}
-use borrow.Author.Tests.{eq-eqb, ne-eqb, le-ltb}
+use borrow.Author.Tests.{eq-eqb, ne-eqb, eqb-true}
 use lib.Dec.{eqb, ltb}
 use lib.ListN.{length, take, drop, getD, replicate, length-take, length-replicate, length-append, List·getD-eq-default}
 use Rattle.lines.specs.Lf.{all, partsOf, linesOf, unlines}
@@ -14,8 +14,8 @@ use Rattle.lines.specs.Inner.Out.{Wrote}
 use Rattle.lines.proofs.Tests.{no, and-both}
 use Rattle.lines.proofs.ActLaws.{keeps, apply-length}
 use Rattle.lines.proofs.OutLaws.{wrote-part}
-use Rattle.origins.specs.Inner.Fates.{Fate, at, fatesGo, fatesOf, follow, staying}
-use Rattle.origins.specs.Inner.Codes.{farMove, half, moveOf, movesOf, codesOf, takenCode, landGo, onCode, through, standing}
+use Rattle.origins.specs.Inner.Fates.{Fate, fatesOf, follow}
+use Rattle.origins.specs.Inner.Codes.{half, moveOf, movesOf, codesOf, landGo, through, standing}
 use Rattle.origins.proofs.FateLaws.{outs, outs-apply, Under, fates-under, fates-length}
 use Rattle.origins.proofs.CodeLaws.{sound, land-fates, standing-outs, through-follow}
 use Rattle.origins.proofs.Notes.{plainly, moves-length, stay-moves}
@@ -47,9 +47,10 @@ use Rattle.bind.specs.Bind.{BlockLine, blockLines, untilHead, anyBound, unbound
 use Rattle.bind.specs.Inner.Steps.{bindNotes, noteMoves}
 use Rattle.bind.proofs.Moves as bind-laws
 use Rattle.limits.specs.declared.Limits.{Limits}
-use Rattle.steps.specs.Step.{stepFates}
 use Rattle.steps.specs.Inner.Bounds.{Bounded}
-use Rattle.steps.specs.Inner.Few.{fewActs}
+use Rattle.steps.specs.Inner.Few.{fewActs, trailed}
+use Rattle.trails.specs.Inner.Trails.{thinned}
+use Rattle.trails.proofs.TrailLaws.{standing-most, thinned-land, thinned-length, thinned-stay, thinned-standing, through-both}
 use Rattle.steps.proofs.Tame.{room-lines}
 
 -- ---- no pass takes a line into itself
@@ -60,7 +61,7 @@ act-down (become x) h = refl
 act-down (into n) h = no h
 act-down gone h = refl
 
-plain-down : (xs : List Act) → all plainly xs ≡ true → all sound xs ≡ true
+pub plain-down : (xs : List Act) → all plainly xs ≡ true → all sound xs ≡ true
 plain-down [] h = refl
 plain-down (keep ∷ more) h = plain-down more h
 plain-down (become x ∷ more) h = plain-down more h
@@ -71,7 +72,7 @@ goes-down : (b : Bool) → sound (cond b gone keep) ≡ true
 goes-down true = refl
 goes-down false = refl
 
-globals-down : (ls : List (List ℕ)) → all sound (globalsActs ls) ≡ true
+pub globals-down : (ls : List (List ℕ)) → all sound (globalsActs ls) ≡ true
 unfolding globalsActs
 globals-down [] = refl
 globals-down (l ∷ ls) = and-both (goes-down (isGlobals l)) (globals-down ls)
@@ -85,7 +86,7 @@ unfolding tempActs
 temps-go R ls [] = refl
 temps-go R ls (m ∷ ms) = and-both (temp-down R ls m) (temps-go R ls ms)
 
-temps-down : (R : Reading) (ls : List (List ℕ)) → all sound (pruneDeadTempsActs R ls) ≡ true
+pub temps-down : (R : Reading) (ls : List (List ℕ)) → all sound (pruneDeadTempsActs R ls) ≡ true
 unfolding pruneDeadTempsActs
 temps-down R ls = temps-go R ls ls
 
@@ -102,7 +103,7 @@ unfolding actsGo
 decls-go [] run = refl
 decls-go (l ∷ ls) run = and-both (decl-down (regionAt l ls run) l) (decls-go ls (regionAt l ls run))
 
-decls-down : (ls : List (List ℕ)) → all sound (pruneDeclsActs ls) ≡ true
+pub decls-down : (ls : List (List ℕ)) → all sound (pruneDeclsActs ls) ≡ true
 unfolding pruneDeclsActs
 decls-down ls = decls-go ls (region ls)
 
@@ -122,26 +123,15 @@ bind-go (d ∷ sp) above ms =
     and-both (bind-act d (aboveIn d above) (untilHead sp) (marked ms))
     (bind-go sp (d .line ∷ aboveIn d above) (markAll (piecesOf (d .line)) (aboveIn d above) d (untilHead sp) (drop 1 ms)))
 
-bind-down : (R : Reading) (ls : List (List ℕ)) → all sound (bindDeclaratorsActs R ls) ≡ true
+pub bind-down : (R : Reading) (ls : List (List ℕ)) → all sound (bindDeclaratorsActs R ls) ≡ true
 unfolding bindDeclaratorsActs
 bind-down R ls = bind-go (blockLines R ls) [] []
 
-keeps-down : (n : ℕ) → all sound (replicate n keep) ≡ true
+pub keeps-down : (n : ℕ) → all sound (replicate n keep) ≡ true
 keeps-down zero = refl
 keeps-down (suc n) = keeps-down n
 
-few-down : (R : Reading) (k : ℕ) (ls : List (List ℕ)) → all sound (fewActs R k ls) ≡ true
-unfolding fewActs
-few-down R k ls = go (eqb k 0) (eqb k 1) (eqb k 3) (eqb k 5)
-  where
-    go : (a b c d : Bool) → all sound (cond a (globalsActs ls) (cond b (pruneDeadTempsActs R ls) (cond c (pruneDeadPhisActs R ls) (cond d (pruneDeclsActs ls) (replicate (length ls) keep))))) ≡ true
-    go true b c d = globals-down ls
-    go false true c d = temps-down R ls
-    go false false true d = plain-down (pruneDeadPhisActs R ls) (phis-plain R ls)
-    go false false false true = decls-down ls
-    go false false false false = keeps-down (length ls)
-
--- ---- which acts and fates a step has
+-- ---- which acts a step has
 
 module _ (R : Reading) (k : ℕ) (ls : List (List ℕ)) where
   pub acts-0 : k ≡ 0 → fewActs R k ls ≡ globalsActs ls
@@ -164,43 +154,15 @@ module _ (R : Reading) (k : ℕ) (ls : List (List ℕ)) where
   unfolding fewActs
   acts-else a b c d = rw (ne-eqb k 0 a, ne-eqb k 1 b, ne-eqb k 3 c, ne-eqb k 5 d)
 
-  pub fates-2 : k ≡ 2 → stepFates R k ls ≡ follow (fatesOf (onceActs R ls)) (fatesOf (pruneDeclsActs (apply (onceActs R ls) ls)))
-  unfolding stepFates
-  fates-2 e = rw e
-
-  pub fates-4 : k ≡ 4 → stepFates R k ls ≡ fatesOf (rebuildCallsActs (leavesOf R) ls)
-  unfolding stepFates
-  fates-4 e = rw e
-
-  pub fates-6 : k ≡ 6 → stepFates R k ls ≡ fatesOf (bindDeclaratorsActs R ls)
-  unfolding stepFates
-  fates-6 e = rw e
-
-stay-go : (n o : ℕ) → fatesGo (replicate n keep) o ≡ staying n o
-unfolding fatesGo staying
-stay-go zero o = refl
-stay-go (suc n) o = ap (λ (fs : List Fate). at o ∷ fs) (stay-go n (suc o))
-
-stay-fates : (n : ℕ) → fatesOf (replicate n keep) ≡ staying n 0
-unfolding fatesOf
-stay-fates n = stay-go n 0
-
-pub fates-few : (R : Reading) (k : ℕ) (ls : List (List ℕ)) → (k ≡ 2 → ⊥) → (k ≡ 4 → ⊥) → (k ≡ 6 → ⊥) → fatesOf (fewActs R k ls) ≡ stepFates R k ls
-unfolding fewActs stepFates
-fates-few R k ls n2 n4 n6 = rw (ne-eqb k 2 n2, ne-eqb k 4 n4, ne-eqb k 6 n6) (go (eqb k 0) (eqb k 1) (eqb k 3) (eqb k 5))
-  where
-    go : (a b c d : Bool) → fatesOf (cond a (globalsActs ls) (cond b (pruneDeadTempsActs R ls) (cond c (pruneDeadPhisActs R ls) (cond d (pruneDeclsActs ls) (replicate (length ls) keep)))))
-        ≡ cond a (fatesOf (globalsActs ls)) (cond b (fatesOf (pruneDeadTempsActs R ls)) (cond c (fatesOf (pruneDeadPhisActs R ls)) (cond d (fatesOf (pruneDeclsActs ls)) (staying (length ls) 0))))
-    go true b c d = refl
-    go false true c d = refl
-    go false false true d = refl
-    go false false false true = refl
-    go false false false false = stay-fates (length ls)
-
 -- lines of which it is noted that they stay
 stays-many : (n : ℕ) → all keeps (replicate n keep) ≡ true
 stays-many zero = refl
 stays-many (suc n) = stays-many n
+
+pub stays-moves : (n : ℕ) → movesOf (replicate n keep) ≡ replicate n 0
+unfolding movesOf moveOf
+stays-moves zero = refl
+stays-moves (suc n) = ap (λ (l : List ℕ). 0 ∷ l) (stays-moves n)
 
 pub stay-noted : (n : ℕ) {d d′ : List ℕ} {r : ℕ} → Wrote d 0 (replicate n 0) d′ r → Wrote d 0 (movesOf (replicate n keep)) d′ n
 stay-noted n w = stay-moves (replicate n keep) n (length-replicate {A = Act} n keep) (stays-many n) w
@@ -214,92 +176,63 @@ pub bind-acts : (mode : ℕ) (ls : List (List ℕ)) → bindDeclaratorsActs plai
 unfolding bindDeclaratorsActs
 bind-acts mode ls = refl
 
--- ---- a table of moves leads where the acts lead
+-- ---- raw moves after the moves of a pass, which stand at the front of a table
 
--- n lines with the acts are at the front of a table of moves
-landed : (acts : List Act) (n : ℕ) (m : List ℕ) → take n m ≡ movesOf acts → all sound acts ≡ true → n < half → landGo (take n m) 0 ≡ codesOf (fatesOf acts)
-unfolding fatesOf
-landed acts n m e s h = ap (λ (l : List ℕ). landGo l 0) e ∙ land-fates acts 0 s (omega (arith, moves-length acts, ap length e, length-take n m))
+-- moves of lines that all stand
+all-stand : (l : List ℕ) → standing l ≡ length l → l ≡ replicate (length l) 0
+unfolding standing
+all-stand [] h = refl
+all-stand (m ∷ l) h = go (eqb m 0) refl h (all-stand l)
+  where
+    go : (b : Bool) → eqb m 0 ≡ b → cond b (suc (standing l)) (standing l) ≡ suc (length l) → (standing l ≡ length l → l ≡ replicate (length l) 0) → m ∷ l ≡ 0 ∷ replicate (length l) 0
+    go true e k ih = ap (λ (x : ℕ). x ∷ l) (eqb-true m 0 e) ∙ ap (λ (r : List ℕ). 0 ∷ r) (ih (omega arith))
+    go false e k ih = absurd (omega (arith, standing-most l))
 
--- the table of origins after them
-pub traced : (acts : List Act) (n : ℕ) (m t : List ℕ) {t′ : List ℕ} → take n m ≡ movesOf acts → all sound acts ≡ true → n < half → t′ ≡ through t (landGo (take n m) 0) → t′ ≡ through t (codesOf (fatesOf acts))
-traced acts n m t e s h z = z ∙ ap (through t) (landed acts n m e s h)
+pub none-moved : (t m : List ℕ) (n : ℕ) {r : ℕ} → n ≤ length m → r ≡ standing (take n m) → r ≡ n → t ≡ thinned t (take n m)
+none-moved t m n h e q =
+    sym (ap (thinned t) (all-stand (take n m) (omega (arith, e, q, length-take n m))) ∙ thinned-stay t (length (take n m)))
 
-pub few-traced : (R : Reading) (k : ℕ) (ls : List (List ℕ)) (t : List ℕ) {n : ℕ} {m₀ m t′ : List ℕ} → (k ≡ 2 → ⊥) → (k ≡ 4 → ⊥) → (k ≡ 6 → ⊥) → n ≡ length ls → n < half →
-    Wrote m₀ 0 (movesOf (fewActs R k ls)) m (length ls) → t′ ≡ through t (landGo (take n m) 0) → t′ ≡ through t (codesOf (stepFates R k ls))
-few-traced R k ls t {n} {m₀} {m} n2 n4 n6 e h w z =
-    traced (fewActs R k ls) n m t (ap (λ (j : ℕ). take j m) e ∙ wrote-part w) (few-down R k ls) h z ∙ ap (λ (fs : List Fate). through t (codesOf fs)) (fates-few R k ls n2 n4 n6)
+module _ (R : Reading) (k : ℕ) (ls : List (List ℕ)) (t : List ℕ) where
+  pub trail-2 : k ≡ 2 → trailed R k ls t ≡ thinned (thinned t (movesOf (onceActs R ls))) (movesOf (pruneDeclsActs (apply (onceActs R ls) ls)))
+  unfolding trailed
+  trail-2 e = rw e
 
-pub calls-traced : (mode : ℕ) (ls : List (List ℕ)) (t : List ℕ) {n : ℕ} {m₀ m t′ : List ℕ} → n ≡ length ls → n < half → Filled m₀ (ownersOf (rebuildCallsActs (leavesOf plain) ls)) m (length ls) →
-    t′ ≡ through t (landGo (take n m) 0) → t′ ≡ through t (codesOf (fatesOf (rebuildCallsActs (leavesOf (readingOf mode)) ls)))
-calls-traced mode ls t {n} {m₀} {m} e h f z =
-    traced (rebuildCallsActs (leavesOf plain) ls) n m t (ap (λ (j : ℕ). take j m) e ∙ filled-take f ∙ sym (calls-moves (leavesOf plain) ls)) (calls-down (leavesOf plain) ls) h z
-    ∙ ap (λ (xs : List Act). through t (codesOf (fatesOf xs))) (calls-acts mode ls)
+  pub trail-4 : k ≡ 4 → trailed R k ls t ≡ thinned t (movesOf (rebuildCallsActs (leavesOf R) ls))
+  unfolding trailed
+  trail-4 e = rw e
 
-pub bind-traced : (mode : ℕ) (ls : List (List ℕ)) (t : List ℕ) {n r : ℕ} {m₀ m b b′ t′ : List ℕ} → n ≡ length ls → n < half → Filled m₀ (bindNotes plain ls) m (length ls) → Wrote b 0 (noteMoves (take n m)) b′ r →
-    t′ ≡ through t (landGo (take n b′) 0) → t′ ≡ through t (codesOf (fatesOf (bindDeclaratorsActs (readingOf mode) ls)))
-bind-traced mode ls t {n} {r} {m₀} {m} {b} {b′} e h f w z =
+  pub trail-6 : k ≡ 6 → trailed R k ls t ≡ thinned t (movesOf (bindDeclaratorsActs R ls))
+  unfolding trailed
+  trail-6 e = rw e
+
+  trail-few : (k ≡ 2 → ⊥) → (k ≡ 4 → ⊥) → (k ≡ 6 → ⊥) → thinned t (movesOf (fewActs R k ls)) ≡ trailed R k ls t
+  unfolding fewActs trailed
+  trail-few n2 n4 n6 = rw (ne-eqb k 2 n2, ne-eqb k 4 n4, ne-eqb k 6 n6) (go (eqb k 0) (eqb k 1) (eqb k 3) (eqb k 5))
+    where
+      go : (a b c d : Bool) → thinned t (movesOf (cond a (globalsActs ls) (cond b (pruneDeadTempsActs R ls) (cond c (pruneDeadPhisActs R ls) (cond d (pruneDeclsActs ls) (replicate (length ls) keep))))))
+          ≡ cond a (thinned t (movesOf (globalsActs ls))) (cond b (thinned t (movesOf (pruneDeadTempsActs R ls))) (cond c (thinned t (movesOf (pruneDeadPhisActs R ls))) (cond d (thinned t (movesOf (pruneDeclsActs ls))) t)))
+      go true b c d = refl
+      go false true c d = refl
+      go false false true d = refl
+      go false false false true = refl
+      go false false false false = ap (thinned t) (stays-moves (length ls)) ∙ thinned-stay t (length ls)
+
+  pub few-trail : {n : ℕ} {m₀ m t′ : List ℕ} → (k ≡ 2 → ⊥) → (k ≡ 4 → ⊥) → (k ≡ 6 → ⊥) → n ≡ length ls → Wrote m₀ 0 (movesOf (fewActs R k ls)) m (length ls) → t′ ≡ thinned t (take n m) → t′ ≡ trailed R k ls t
+  few-trail {n} {m₀} {m} n2 n4 n6 e w z = z ∙ ap (thinned t) (ap (λ (j : ℕ). take j m) e ∙ wrote-part w) ∙ trail-few n2 n4 n6
+
+pub calls-trail : (mode : ℕ) (ls : List (List ℕ)) (t : List ℕ) {n : ℕ} {m₀ m t′ : List ℕ} → n ≡ length ls → Filled m₀ (ownersOf (rebuildCallsActs (leavesOf plain) ls)) m (length ls) →
+    t′ ≡ thinned t (take n m) → t′ ≡ thinned t (movesOf (rebuildCallsActs (leavesOf (readingOf mode)) ls))
+calls-trail mode ls t {n} {m₀} {m} e f z =
+    z ∙ ap (thinned t) (ap (λ (j : ℕ). take j m) e ∙ filled-take f ∙ sym (calls-moves (leavesOf plain) ls) ∙ ap movesOf (calls-acts mode ls))
+
+pub bind-trail : (mode : ℕ) (ls : List (List ℕ)) (t : List ℕ) {n r : ℕ} {m₀ m b b′ t′ : List ℕ} → n ≡ length ls → Filled m₀ (bindNotes plain ls) m (length ls) → Wrote b 0 (noteMoves (take n m)) b′ r →
+    t′ ≡ thinned t (take n b′) → t′ ≡ thinned t (movesOf (bindDeclaratorsActs (readingOf mode) ls))
+bind-trail mode ls t {n} {r} {m₀} {m} {b} {b′} e f w z =
     let q : take n m ≡ bindNotes plain ls = ap (λ (j : ℕ). take j m) e ∙ filled-take f in
     let c : r ≡ n = omega (arith, w .place, bind-laws.moves-many (take n m), ap length q, f .place, e) in
-    traced (bindDeclaratorsActs plain ls) n b′ t (ap (λ (j : ℕ). take j b′) (sym c) ∙ wrote-part w ∙ ap noteMoves q ∙ sym (bind-laws.bind-moves plain ls)) (bind-down plain ls) h z
-    ∙ ap (λ (xs : List Act). through t (codesOf (fatesOf xs))) (bind-acts mode ls)
+    z ∙ ap (thinned t) (ap (λ (j : ℕ). take j b′) (sym c) ∙ wrote-part w ∙ ap noteMoves q ∙ sym (bind-laws.bind-moves plain ls) ∙ ap movesOf (bind-acts mode ls))
 
--- ---- two stages, one after the other
-
-taken-again : (c : ℕ) → takenCode (takenCode c) ≡ takenCode c
-unfolding takenCode
-taken-again c = go (ltb c half) refl
-  where
-    go : (b : Bool) → ltb c half ≡ b → cond (ltb (cond b (half + c) c) half) (half + cond b (half + c) c) (cond b (half + c) c) ≡ cond b (half + c) c
-    go true e = rw (le-ltb (half + c) half (omega arith))
-    go false e = rw e
-
-high-same : (x : ℕ) → ltb x half ≡ false → takenCode x ≡ x
-unfolding takenCode
-high-same x e = rw e
-
-entry-on : (xs ys : List ℕ) (i : ℕ) → onCode ys farMove ≡ farMove → getD (through xs ys) i farMove ≡ onCode ys (getD xs i farMove)
-unfolding through
-entry-on [] ys i f = sym f
-entry-on (x ∷ xs) ys zero f = refl
-entry-on (x ∷ xs) ys (suc i) f = entry-on xs ys i f
-
-far-on : (ys : List ℕ) → length ys < half → onCode ys farMove ≡ farMove
-unfolding onCode takenCode
-far-on ys h = rw (List·getD-eq-default ys farMove {n = farMove - half} (omega arith))
-
-on-low : (ys : List ℕ) (x : ℕ) → ltb x half ≡ true → onCode ys (takenCode x) ≡ takenCode (onCode ys x)
-unfolding onCode takenCode
-on-low ys x e =
-    let q : (half + x) - half ≡ x = omega arith in
-    rw (e, le-ltb (half + x) half (omega arith), q)
-
-on-high : (ys : List ℕ) (x : ℕ) → ltb x half ≡ false → onCode ys (takenCode x) ≡ takenCode (onCode ys x)
-unfolding onCode
-on-high ys x e = ap (onCode ys) (high-same x e) ∙ rw e (sym (taken-again (getD ys (x - half) farMove)))
-
-taken-on : (ys : List ℕ) (x : ℕ) → onCode ys (takenCode x) ≡ takenCode (onCode ys x)
-taken-on ys x = go (ltb x half) refl
-  where
-    go : (b : Bool) → ltb x half ≡ b → onCode ys (takenCode x) ≡ takenCode (onCode ys x)
-    go true e = on-low ys x e
-    go false e = on-high ys x e
-
--- a code through both
-on-both : (xs ys : List ℕ) (c : ℕ) → length ys < half → onCode ys (onCode xs c) ≡ onCode (through xs ys) c
-unfolding onCode
-on-both xs ys c h = go (ltb c half)
-  where
-    go : (b : Bool) → onCode ys (cond b (getD xs c farMove) (takenCode (getD xs (c - half) farMove))) ≡ cond b (getD (through xs ys) c farMove) (takenCode (getD (through xs ys) (c - half) farMove))
-    go true = sym (entry-on xs ys c (far-on ys h))
-    go false = taken-on ys (getD xs (c - half) farMove) ∙ ap takenCode (sym (entry-on xs ys (c - half) (far-on ys h)))
-
--- going on through two tables is going on through the second one's codes of the first
-through-both : (t xs ys : List ℕ) → length ys < half → through (through t xs) ys ≡ through t (through xs ys)
-unfolding through
-through-both [] xs ys h = refl
-through-both (c ∷ t) xs ys h =
-    ap (λ (n : ℕ). n ∷ through (through t xs) ys) (on-both xs ys c h) ∙ ap (λ (l : List ℕ). onCode (through xs ys) c ∷ l) (through-both t xs ys h)
+-- ---- where raw moves lead after acts, and how many lines stand then
 
 outs-most : (acts : List Act) → outs acts ≤ length acts
 unfolding outs
@@ -323,12 +256,25 @@ unfolding codesOf
 codes-many [] = refl
 codes-many (f ∷ fs) = ap suc (codes-many fs)
 
--- the fates of two lists of acts, the second for the lines that the first makes
-pub both-traced : (xs ys : List Act) (t : List ℕ) {t′ t″ : List ℕ} → length xs < half → length ys < half → t′ ≡ through t (codesOf (fatesOf xs)) → t″ ≡ through t′ (codesOf (fatesOf ys)) → t″ ≡ through t (codesOf (follow (fatesOf xs) (fatesOf ys)))
-both-traced xs ys t h k p q =
-    q ∙ ap (λ (l : List ℕ). through l (codesOf (fatesOf ys))) p
-    ∙ through-both t (codesOf (fatesOf xs)) (codesOf (fatesOf ys)) (omega (arith, codes-many (fatesOf ys), fates-many ys))
-    ∙ ap (through t) (through-follow (fatesOf xs) (fatesOf ys) (acts-under xs h) (acts-under ys k) (omega (arith, fates-many ys)))
+pub acts-land : (xs : List Act) (t : List ℕ) → all sound xs ≡ true → standing t ≡ length xs → length t < half → landGo (thinned t (movesOf xs)) 0 ≡ through (landGo t 0) (codesOf (fatesOf xs))
+unfolding fatesOf
+acts-land xs t s c h =
+    thinned-land t (movesOf xs) (c ∙ sym (moves-length xs)) h ∙ ap (through (landGo t 0)) (land-fates xs 0 s (omega (arith, standing-most t, c, h)))
+
+pub acts-stand : (xs : List Act) (ls : List (List ℕ)) (t : List ℕ) → all sound xs ≡ true → length xs ≡ length ls → standing t ≡ length ls → standing (thinned t (movesOf xs)) ≡ length (apply xs ls)
+acts-stand xs ls t s q c = thinned-standing t (movesOf xs) (c ∙ sym q ∙ sym (moves-length xs)) ∙ standing-outs xs s ∙ sym (outs-apply xs ls q)
+
+-- after two lists of acts, the second for the lines that the first makes
+pub both-land : (xs ys : List Act) (ls : List (List ℕ)) (t : List ℕ) → all sound xs ≡ true → all sound ys ≡ true → length xs ≡ length ls → length ys ≡ length (apply xs ls) → standing t ≡ length ls → length t < half →
+    landGo (thinned (thinned t (movesOf xs)) (movesOf ys)) 0 ≡ through (landGo t 0) (codesOf (follow (fatesOf xs) (fatesOf ys)))
+both-land xs ys ls t s u q p c h =
+    let t₁ : List ℕ = thinned t (movesOf xs) in
+    let few : length ls < half = omega (arith, standing-most t, c, h) in
+    let less : length ys < half = omega (arith, p, apply-length xs ls, few) in
+    acts-land ys t₁ u (acts-stand xs ls t s q c ∙ sym p) (omega (arith, thinned-length t (movesOf xs), h))
+    ∙ ap (λ (l : List ℕ). through l (codesOf (fatesOf ys))) (acts-land xs t s (c ∙ sym q) h)
+    ∙ through-both (landGo t 0) (codesOf (fatesOf xs)) (codesOf (fatesOf ys)) (omega (arith, codes-many (fatesOf ys), fates-many ys, less))
+    ∙ ap (through (landGo t 0)) (through-follow (fatesOf xs) (fatesOf ys) (acts-under xs (omega (arith, q, few))) (acts-under ys less) (omega (arith, fates-many ys, less)))
 
 -- ---- pass 2: its own acts, then those of declarations
 
@@ -338,7 +284,7 @@ marks-many R ls = ap length (sym (marks-of R ls)) ∙ marks-length R ls (tops (b
 pub once-many : (R : Reading) (ls : List (List ℕ)) → length (onceActs R ls) ≡ length ls
 once-many R ls = sym (moves-length (onceActs R ls)) ∙ ap length (once-laws.once-moves R ls) ∙ once-laws.moves-many (onceMarks R ls) ∙ marks-many R ls
 
-module _ (R : Reading) (ls : List (List ℕ)) {n r : ℕ} {m₀ m b b′ : List ℕ} (e : n ≡ length ls) (h : n < half) (f : Filled m₀ (onceMarks R ls) m (length (onceMarks R ls))) (w : Wrote b 0 (moveMarks (take n m)) b′ r) where
+module _ (R : Reading) (ls : List (List ℕ)) {n r : ℕ} {m₀ m b b′ : List ℕ} (e : n ≡ length ls) (f : Filled m₀ (onceMarks R ls) m (length (onceMarks R ls))) (w : Wrote b 0 (moveMarks (take n m)) b′ r) where
   once-front : take n b′ ≡ movesOf (onceActs R ls)
   once-front =
       let c : n ≡ length (onceMarks R ls) = omega (arith, e, marks-many R ls) in
@@ -350,15 +296,11 @@ module _ (R : Reading) (ls : List (List ℕ)) {n r : ℕ} {m₀ m b b′ : List 
   pub once-stands : {s : ℕ} → s ≡ standing (take n b′) → s ≡ length (apply (onceActs R ls) ls)
   once-stands z = z ∙ ap standing once-front ∙ standing-outs (onceActs R ls) (once-laws.once-sound R ls .0) ∙ sym (outs-apply (onceActs R ls) ls (once-many R ls))
 
-  pub once-traced : (t : List ℕ) {s : ℕ} {p p′ t′ t″ : List ℕ} → s ≡ standing (take n b′) → Wrote p 0 (movesOf (pruneDeclsActs (apply (onceActs R ls) ls))) p′ (length (apply (onceActs R ls) ls)) →
-      t′ ≡ through t (landGo (take n b′) 0) → t″ ≡ through t′ (landGo (take s p′) 0) → t″ ≡ through t (codesOf (follow (fatesOf (onceActs R ls)) (fatesOf (pruneDeclsActs (apply (onceActs R ls) ls)))))
-  once-traced t {s} {p} {p′} {t′} {t″} a v y z =
-      let ms : List (List ℕ) = apply (onceActs R ls) ls in
-      let k : length ms ≤ length ls = apply-length (onceActs R ls) ls in
-      let c : length (pruneDeclsActs ms) ≡ length ms = acts-length ms in
-      both-traced (onceActs R ls) (pruneDeclsActs ms) t (omega (arith, once-many R ls, e, h)) (omega (arith, c, k, e, h))
-      (traced (onceActs R ls) n b′ t once-front (once-laws.once-sound R ls .0) h y)
-      (traced (pruneDeclsActs ms) s p′ t′ (ap (λ (j : ℕ). take j p′) (once-stands a) ∙ wrote-part v) (decls-down ms) (omega (arith, once-stands a, k, e, h)) z)
+  pub once-trail : (t : List ℕ) {s : ℕ} {p p′ t′ t″ : List ℕ} → s ≡ standing (take n b′) → Wrote p 0 (movesOf (pruneDeclsActs (apply (onceActs R ls) ls))) p′ (length (apply (onceActs R ls) ls)) →
+      t′ ≡ thinned t (take n b′) → t″ ≡ thinned t′ (take s p′) → t″ ≡ thinned (thinned t (movesOf (onceActs R ls))) (movesOf (pruneDeclsActs (apply (onceActs R ls) ls)))
+  once-trail t {s} {p} {p′} {t′} {t″} a v y z =
+      z ∙ ap (λ (l : List ℕ). thinned l (take s p′)) (y ∙ ap (thinned t) once-front)
+      ∙ ap (thinned (thinned t (movesOf (onceActs R ls)))) (ap (λ (j : ℕ). take j p′) (once-stands a) ∙ wrote-part v)
 
 -- ---- a text within bounds has few lines
 

@@ -5,8 +5,8 @@ ghost use lib.ListN.{length, take, replicate};
 ghost use Rattle.lines.specs.Lf.{linesOf, unlines};
 ghost use Rattle.lines.specs.Inner.Out.{Wrote};
 ghost use Rattle.lines.specs.Acts.{apply};
-ghost use Rattle.origins.specs.Inner.Fates.{fatesOf, follow};
-ghost use Rattle.origins.specs.Inner.Codes.{movesOf, codesOf, landGo, through, standing};
+ghost use Rattle.origins.specs.Inner.Codes.{movesOf, standing};
+ghost use Rattle.trails.specs.Inner.Trails.{thinned};
 ghost use Rattle.reading.specs.Reading.{readingOf};
 ghost use Rattle.temps.specs.Temps.{pruneDeadTempsActs, pruneDeadTemps};
 ghost use Rattle.once.specs.Once.{onceActs, optimizeOnce};
@@ -17,21 +17,25 @@ ghost use Rattle.calls.specs.LeavesOf.{leavesOf};
 ghost use Rattle.calls.specs.Calls.{rebuildCallsActs, rebuildCalls};
 ghost use Rattle.bind.specs.Bind.{bindDeclaratorsActs, bindDeclarators};
 ghost use Rattle.limits.specs.Entry.{byteSize, blockSize};
-ghost use Rattle.steps.specs.Step.{stepOf, stepFates};
+ghost use Rattle.steps.specs.Step.{stepOf};
 ghost use Rattle.steps.specs.Inner.Bounds.{Bounded, Sized, Tabled};
 ghost use Rattle.steps.specs.Inner.Left.{leftC, leftD, leftE, leftU, Left, cleared, usesT, Cleared, Few};
-ghost use Rattle.steps.specs.Inner.Few.{fewActs};
+ghost use Rattle.steps.specs.Inner.Few.{fewActs, trailed, idleIn};
 use limits::Task;
 
-// Takes a table of origins on through the moves of `n` lines, makes the table of moves 0, and returns how many of the lines stand.
+// Takes a table of raw moves on by the moves of `n` lines, makes the table of moves 0, and returns how many of the lines stand.
 fn trace(n: usize, moves: &mut [usize], table: &mut [usize]) -> usize
     requires { ⌜ n ≤ length (now moves) ⌝ }
     ensures answer { λ r. ⌜ r ≡ standing (take n (now (moves .entry))) ⌝ }
     ensures memory { λ _. ⌜ now (moves .exit) ≡ replicate (length (now (moves .entry))) 0 ⌝ }
-    ensures origins { λ _. ⌜ now (table .exit) ≡ through (now (table .entry)) (landGo (take n (now (moves .entry))) 0) ⌝ }
+    ensures origins { λ _. ⌜ now (table .exit) ≡ thinned (now (table .entry)) (take n (now (moves .entry))) ⌝ }
 {
-    let s = origins::land(&mut moves[..n]);
-    origins::follow(table, &moves[..n]);
+    let s = origins::count_standing(&moves[..n]);
+    if s == n {
+        slots::wipe(moves);
+        return s;
+    }
+    trails::carry(&moves[..n], table);
     slots::wipe(moves);
     s
 }
@@ -56,9 +60,10 @@ fn temps_step(
     temps::prune_dead_temps(m.mode, src, own, declared, read, scratch, dst, moves)
 }
 
-// Runs optimize_once, takes the table of origins on through its moves, and makes its tables over lines 0.
+// Runs optimize_once, takes the table of raw moves on by its moves, and makes its tables over lines 0.
 fn once_step(
     m: Task,
+    rows: usize,
     src: &[u8],
     own: &[usize],
     scratch: &mut [u8],
@@ -77,11 +82,11 @@ fn once_step(
     dst: &mut [u8],
     table: &mut [usize],
 ) -> usize
-    requires { ⌜ Bounded (m .limits) (now src) × (((byteSize (m .limits) ≤ length (now scratch)) × ((byteSize (m .limits) ≤ length (now mid)) × (byteSize (m .limits) ≤ length (now dst)))) × (((blockSize (m .limits) ≤ length (now up)) × (length (now up) < 2 ^ 32)) × ((((m .limits .lines) ≤ length (now loops)) × (((m .limits .lines) ≤ length (now marks)) × (((m .limits .lines) ≤ length (now paths)) × ((m .limits .lines) ≤ length (now moves))))) × ((length (now far) ≡ length (now near)) × (length (now far) ≡ length (now stores)))))) ⌝ }
+    requires { ⌜ (rows ≡ length (linesOf (now src))) × (Bounded (m .limits) (now src) × (((byteSize (m .limits) ≤ length (now scratch)) × ((byteSize (m .limits) ≤ length (now mid)) × (byteSize (m .limits) ≤ length (now dst)))) × (((blockSize (m .limits) ≤ length (now up)) × (length (now up) < 2 ^ 32)) × ((((m .limits .lines) ≤ length (now loops)) × (((m .limits .lines) ≤ length (now marks)) × (((m .limits .lines) ≤ length (now paths)) × ((m .limits .lines) ≤ length (now moves))))) × ((length (now far) ≡ length (now near)) × (length (now far) ≡ length (now stores))))))) ⌝ }
     ensures answer { λ r. ⌜ Wrote (now (dst .entry)) 0 (unlines (optimizeOnce (readingOf (m .mode .0)) (linesOf (now (src .entry))))) (now (dst .exit)) r ⌝ }
     ensures memory { λ _. ⌜ (now (scratch .exit) ≡ leftC (m .mode .0) 2 (now (src .entry)) (now (scratch .entry))) × ((now (mid .exit) ≡ leftD (m .mode .0) 2 (now (src .entry)) (now (mid .entry))) × (now (up .exit) ≡ leftU 2 (now (src .entry)) (now (up .entry)))) ⌝ }
     ensures tables { λ _. ⌜ (now (loops .exit) ≡ replicate (length (now (loops .entry))) 0) × ((now (marks .exit) ≡ replicate (length (now (marks .entry))) 0) × ((now (notes .exit) ≡ replicate (length (now (notes .entry))) 0) × ((now (near .exit) ≡ replicate (length (now (near .entry))) 0) × ((now (far .exit) ≡ replicate (length (now (far .entry))) 0) × ((now (stores .exit) ≡ replicate (length (now (stores .entry))) 0) × ((now (paths .exit) ≡ replicate (length (now (paths .entry))) 0) × ((now (ends .exit) ≡ replicate (length (now (ends .entry))) 0) × ((now (seen .exit) ≡ replicate (length (now (seen .entry))) 0) × (now (moves .exit) ≡ replicate (length (now (moves .entry))) 0))))))))) ⌝ }
-    ensures origins { λ _. ⌜ now (table .exit) ≡ through (now (table .entry)) (codesOf (follow (fatesOf (onceActs (readingOf (m .mode .0)) (linesOf (now (src .entry))))) (fatesOf (pruneDeclsActs (apply (onceActs (readingOf (m .mode .0)) (linesOf (now (src .entry)))) (linesOf (now (src .entry)))))))) ⌝ }
+    ensures origins { λ _. ⌜ now (table .exit) ≡ thinned (thinned (now (table .entry)) (movesOf (onceActs (readingOf (m .mode .0)) (linesOf (now (src .entry)))))) (movesOf (pruneDeclsActs (apply (onceActs (readingOf (m .mode .0)) (linesOf (now (src .entry)))) (linesOf (now (src .entry)))))) ⌝ }
 {
     let n = once::optimize_once(
         m.mode,
@@ -102,18 +107,18 @@ fn once_step(
         dst,
         moves,
     );
-    let k = lines::count_lines(src);
-    once::moves_of(&marks[..k], paths);
+    once::moves_of(&marks[..rows], paths);
     lines::wipe(loops, loops.len());
     lines::wipe(marks, marks.len());
-    let s = trace(k, paths, table);
+    let s = trace(rows, paths, table);
     trace(s, moves, table);
     n
 }
 
-// Runs rebuild_calls, takes the table of origins on through its moves, which are its owners, and makes its tables over lines 0.
+// Runs rebuild_calls, takes the table of raw moves on by its moves, which are its owners, and makes its tables over lines 0.
 fn calls_step(
     m: Task,
+    rows: usize,
     src: &[u8],
     own: &[usize],
     cur: &mut [u8],
@@ -130,11 +135,11 @@ fn calls_step(
     dst: &mut [u8],
     table: &mut [usize],
 ) -> usize
-    requires { ⌜ Bounded (m .limits) (now src) × (((byteSize (m .limits) ≤ length (now cur)) × ((byteSize (m .limits) ≤ length (now next)) × ((byteSize (m .limits) ≤ length (now stack)) × (byteSize (m .limits) ≤ length (now dst))))) × (((blockSize (m .limits) ≤ length (now up)) × (length (now up) < 2 ^ 32)) × (((m .limits .lines) ≤ length (now starts)) × (((m .limits .lines) ≤ length (now owner)) × (((m .limits .lines) ≤ length (now ends)) × ((m .limits .lines) ≤ length (now blocks))))))) ⌝ }
+    requires { ⌜ (rows ≡ length (linesOf (now src))) × (Bounded (m .limits) (now src) × (((byteSize (m .limits) ≤ length (now cur)) × ((byteSize (m .limits) ≤ length (now next)) × ((byteSize (m .limits) ≤ length (now stack)) × (byteSize (m .limits) ≤ length (now dst))))) × (((blockSize (m .limits) ≤ length (now up)) × (length (now up) < 2 ^ 32)) × (((m .limits .lines) ≤ length (now starts)) × (((m .limits .lines) ≤ length (now owner)) × (((m .limits .lines) ≤ length (now ends)) × ((m .limits .lines) ≤ length (now blocks)))))))) ⌝ }
     ensures answer { λ r. ⌜ Wrote (now (dst .entry)) 0 (unlines (rebuildCalls (leavesOf (readingOf (m .mode .0))) (linesOf (now (src .entry))))) (now (dst .exit)) r ⌝ }
     ensures memory { λ _. ⌜ (now (cur .exit) ≡ leftC (m .mode .0) 4 (now (src .entry)) (now (cur .entry))) × ((now (next .exit) ≡ leftD (m .mode .0) 4 (now (src .entry)) (now (next .entry))) × ((now (stack .exit) ≡ leftE (m .mode .0) 4 (now (src .entry)) (now (stack .entry))) × (now (up .exit) ≡ leftU 4 (now (src .entry)) (now (up .entry))))) ⌝ }
     ensures tables { λ _. ⌜ (now (starts .exit) ≡ replicate (length (now (starts .entry))) 0) × ((now (near .exit) ≡ replicate (length (now (near .entry))) 0) × ((now (stores .exit) ≡ replicate (length (now (stores .entry))) 0) × ((now (notes .exit) ≡ replicate (length (now (notes .entry))) 0) × ((now (owner .exit) ≡ replicate (length (now (owner .entry))) 0) × ((now (ends .exit) ≡ replicate (length (now (ends .entry))) 0) × (now (blocks .exit) ≡ replicate (length (now (blocks .entry))) 0)))))) ⌝ }
-    ensures origins { λ _. ⌜ now (table .exit) ≡ through (now (table .entry)) (codesOf (fatesOf (rebuildCallsActs (leavesOf (readingOf (m .mode .0))) (linesOf (now (src .entry)))))) ⌝ }
+    ensures origins { λ _. ⌜ now (table .exit) ≡ thinned (now (table .entry)) (movesOf (rebuildCallsActs (leavesOf (readingOf (m .mode .0))) (linesOf (now (src .entry))))) ⌝ }
 {
     let n = calls::rebuild_calls(
         src,
@@ -152,17 +157,17 @@ fn calls_step(
         next,
         dst,
     );
-    let k = lines::count_lines(src);
-    trace(k, owner, table);
+    trace(rows, owner, table);
     lines::wipe(starts, starts.len());
     slots::wipe(ends);
     slots::wipe(blocks);
     n
 }
 
-// Runs bind_declarators, takes the table of origins on through its moves, and makes its tables over lines 0.
+// Runs bind_declarators, takes the table of raw moves on by its moves, and makes its tables over lines 0.
 fn bind_step(
     m: Task,
+    rows: usize,
     src: &[u8],
     own: &[usize],
     starts: &mut [u8],
@@ -175,16 +180,15 @@ fn bind_step(
     dst: &mut [u8],
     table: &mut [usize],
 ) -> usize
-    requires { ⌜ Bounded (m .limits) (now src) × ((byteSize (m .limits) ≤ length (now dst)) × (((blockSize (m .limits) ≤ length (now up)) × (length (now up) < 2 ^ 32)) × (((m .limits .lines) ≤ length (now starts)) × (((m .limits .lines) ≤ length (now marks)) × (((m .limits .lines) ≤ length (now blocks)) × ((m .limits .lines) ≤ length (now ends))))))) ⌝ }
+    requires { ⌜ (rows ≡ length (linesOf (now src))) × (Bounded (m .limits) (now src) × ((byteSize (m .limits) ≤ length (now dst)) × (((blockSize (m .limits) ≤ length (now up)) × (length (now up) < 2 ^ 32)) × (((m .limits .lines) ≤ length (now starts)) × (((m .limits .lines) ≤ length (now marks)) × (((m .limits .lines) ≤ length (now blocks)) × ((m .limits .lines) ≤ length (now ends)))))))) ⌝ }
     ensures answer { λ r. ⌜ Wrote (now (dst .entry)) 0 (unlines (bindDeclarators (readingOf (m .mode .0)) (linesOf (now (src .entry))))) (now (dst .exit)) r ⌝ }
     ensures memory { λ _. ⌜ now (up .exit) ≡ leftU 6 (now (src .entry)) (now (up .entry)) ⌝ }
     ensures tables { λ _. ⌜ (now (starts .exit) ≡ replicate (length (now (starts .entry))) 0) × ((now (marks .exit) ≡ replicate (length (now (marks .entry))) 0) × ((now (blocks .exit) ≡ replicate (length (now (blocks .entry))) 0) × ((now (ends .exit) ≡ replicate (length (now (ends .entry))) 0) × ((now (seen .exit) ≡ replicate (length (now (seen .entry))) 0) × (now (first .exit) ≡ replicate (length (now (first .entry))) 0))))) ⌝ }
-    ensures origins { λ _. ⌜ now (table .exit) ≡ through (now (table .entry)) (codesOf (fatesOf (bindDeclaratorsActs (readingOf (m .mode .0)) (linesOf (now (src .entry)))))) ⌝ }
+    ensures origins { λ _. ⌜ now (table .exit) ≡ thinned (now (table .entry)) (movesOf (bindDeclaratorsActs (readingOf (m .mode .0)) (linesOf (now (src .entry))))) ⌝ }
 {
     let n = bind::bind_declarators(src, own, ends, blocks, starts, up, marks, seen, first, dst);
-    let k = lines::count_lines(src);
-    bind::moves_of(&marks[..k], blocks);
-    trace(k, blocks, table);
+    bind::moves_of(&marks[..rows], blocks);
+    trace(rows, blocks, table);
     lines::wipe(starts, starts.len());
     lines::wipe(marks, marks.len());
     slots::wipe(ends);
@@ -253,6 +257,7 @@ fn few_step(
 fn other_step(
     k: usize,
     m: Task,
+    rows: usize,
     src: &[u8],
     own: &[usize],
     dst: &mut [u8],
@@ -272,16 +277,17 @@ fn other_step(
     t: &mut [usize],
     table: &mut [usize],
 ) -> usize
-    requires { ⌜ (k ≡ 6 → ⊥) × (Bounded (m .limits) (now src) × (Sized (m .limits) (now dst) (now c) (now d) (now e) (now u) × Tabled (m .limits) (now f) (now g) (now v) (now w) (now x) (now p) (now q) (now r) (now t))) ⌝ }
+    requires { ⌜ (rows ≡ length (linesOf (now src))) × ((k ≡ 6 → ⊥) × (Bounded (m .limits) (now src) × (Sized (m .limits) (now dst) (now c) (now d) (now e) (now u) × Tabled (m .limits) (now f) (now g) (now v) (now w) (now x) (now p) (now q) (now r) (now t)))) ⌝ }
     ensures answer { λ n. ⌜ Wrote (now (dst .entry)) 0 (unlines (stepOf (readingOf (m .mode .0)) k (linesOf (now (src .entry))))) (now (dst .exit)) n ⌝ }
     ensures memory { λ _. ⌜ Left (m .mode .0) k (now (src .entry)) (now (c .entry)) (now (d .entry)) (now (e .entry)) (now (u .entry)) (now (c .exit)) (now (d .exit)) (now (e .exit)) (now (u .exit)) ⌝ }
     ensures tables { λ _. ⌜ Cleared k (now (f .entry)) (now (g .entry)) (now (h .entry)) (now (v .entry)) (now (w .entry)) (now (x .entry)) (now (p .entry)) (now (q .entry)) (now (r .entry)) (now (f .exit)) (now (g .exit)) (now (h .exit)) (now (v .exit)) (now (w .exit)) (now (x .exit)) (now (p .exit)) (now (q .exit)) (now (r .exit)) ⌝ }
     ensures last { λ _. ⌜ now (t .exit) ≡ cleared (usesT k) (now (t .entry)) ⌝ }
-    ensures origins { λ _. ⌜ now (table .exit) ≡ through (now (table .entry)) (codesOf (stepFates (readingOf (m .mode .0)) k (linesOf (now (src .entry))))) ⌝ }
+    ensures origins { λ _. ⌜ now (table .exit) ≡ trailed (readingOf (m .mode .0)) k (linesOf (now (src .entry))) (now (table .entry)) ⌝ }
 {
     if k == 2 {
         return once_step(
             m,
+            rows,
             src,
             own,
             c,
@@ -302,20 +308,37 @@ fn other_step(
         );
     }
     if k == 4 {
-        return calls_step(m, src, own, c, d, e, f, u, v, w, x, p, q, r, dst, table);
+        return calls_step(m, rows, src, own, c, d, e, f, u, v, w, x, p, q, r, dst, table);
     }
     let n = few_step(k, m, src, own, dst, c, d, e, f, g, p, q, r);
-    let j = lines::count_lines(src);
-    trace(j, p, table);
+    trace(rows, p, table);
     n
+}
+
+// Whether a pass by its number plainly leaves a text as it is: the removal one without `_`, prune_dead_temps one without a digit after a `t`,
+// prune_dead_phis one without `phi`.
+pub fn idle(k: usize, src: &[u8]) -> bool
+    ensures { λ r. ⌜ r ≡ idleIn k (now (src .entry)) ⌝ }
+{
+    if k == 0 {
+        return lines::lacks(src, b'_');
+    }
+    if k == 1 {
+        return !temps::has_temp(src);
+    }
+    if k == 3 {
+        return !phis::holds_phi(src);
+    }
+    false
 }
 
 // Runs a pass of a task by its number from one buffer into another, and returns the length of what it wrote: 0 is the removal, and another number than
 // 1 to 6 changes nothing. The other buffers are scratch, and `f` to `h`, `v` to `x` and `p` to `t` are tables: those that the pass uses are 0 afterwards.
-// `own` has the numbers that are not low, and says where their entries stand. `table` has the codes of lines, and is taken on through the pass.
+// `own` has the numbers that are not low, and says where their entries stand. `rows` is how many lines the text has. `table` has the raw moves, and is taken on by those of the pass.
 pub fn step(
     k: usize,
     m: Task,
+    rows: usize,
     src: &[u8],
     own: &[usize],
     dst: &mut [u8],
@@ -335,19 +358,20 @@ pub fn step(
     t: &mut [usize],
     table: &mut [usize],
 ) -> usize
-    requires { ⌜ Bounded (m .limits) (now src) × (Sized (m .limits) (now dst) (now c) (now d) (now e) (now u) × Tabled (m .limits) (now f) (now g) (now v) (now w) (now x) (now p) (now q) (now r) (now t)) ⌝ }
+    requires { ⌜ (rows ≡ length (linesOf (now src))) × (Bounded (m .limits) (now src) × (Sized (m .limits) (now dst) (now c) (now d) (now e) (now u) × Tabled (m .limits) (now f) (now g) (now v) (now w) (now x) (now p) (now q) (now r) (now t))) ⌝ }
     ensures answer { λ n. ⌜ Wrote (now (dst .entry)) 0 (unlines (stepOf (readingOf (m .mode .0)) k (linesOf (now (src .entry))))) (now (dst .exit)) n ⌝ }
     ensures memory { λ _. ⌜ Left (m .mode .0) k (now (src .entry)) (now (c .entry)) (now (d .entry)) (now (e .entry)) (now (u .entry)) (now (c .exit)) (now (d .exit)) (now (e .exit)) (now (u .exit)) ⌝ }
     ensures tables { λ _. ⌜ Cleared k (now (f .entry)) (now (g .entry)) (now (h .entry)) (now (v .entry)) (now (w .entry)) (now (x .entry)) (now (p .entry)) (now (q .entry)) (now (r .entry)) (now (f .exit)) (now (g .exit)) (now (h .exit)) (now (v .exit)) (now (w .exit)) (now (x .exit)) (now (p .exit)) (now (q .exit)) (now (r .exit)) ⌝ }
     ensures last { λ _. ⌜ now (t .exit) ≡ cleared (usesT k) (now (t .entry)) ⌝ }
-    ensures origins { λ _. ⌜ now (table .exit) ≡ through (now (table .entry)) (codesOf (stepFates (readingOf (m .mode .0)) k (linesOf (now (src .entry))))) ⌝ }
+    ensures origins { λ _. ⌜ now (table .exit) ≡ trailed (readingOf (m .mode .0)) k (linesOf (now (src .entry))) (now (table .entry)) ⌝ }
 {
     if k == 6 {
-        return bind_step(m, src, own, f, g, u, p, q, r, t, dst, table);
+        return bind_step(m, rows, src, own, f, g, u, p, q, r, t, dst, table);
     }
     other_step(
         k,
         m,
+        rows,
         src,
         own,
         dst,

@@ -97,7 +97,7 @@ keep-scratch k (m ∷ ms) d h =
     rw (left-lack m (not-true _ (and-left (not (tempIn m)) _ h)), and-false (isAssign (trimOf m))) (keep-scratch k ms d (and-right (not (tempIn m)) _ h))
 
 module _ (t : List ℕ) (h : tempIn t ≡ false) where
-  keeps-all : (R : Reading) → all keeps (pruneDeadTempsActs R (linesOf t)) ≡ true
+  pub keeps-all : (R : Reading) → all keeps (pruneDeadTempsActs R (linesOf t)) ≡ true
   unfolding pruneDeadTempsActs
   keeps-all R = keep-acts R (linesOf t) (linesOf t) (lines-lack tempIn lack-rest lack-take t h)
 

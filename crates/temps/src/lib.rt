@@ -301,7 +301,7 @@ fn after_t(a: u8, b: u8) -> u8
 
 // Whether a digit stands after a `t` somewhere: the least of what `after_t` says tells. It goes on to the end, so that the compiler
 // compares many bytes at a time.
-fn has_temp(s: &[u8]) -> bool
+pub fn has_temp(s: &[u8]) -> bool
     ensures { λ r. ⌜ r ≡ tempIn (now (s .entry)) ⌝ }
 {
     if s.len() == 0 {

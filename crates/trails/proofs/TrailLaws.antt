@@ -27,13 +27,13 @@ high-same : (x : ℕ) → ltb x half ≡ false → takenCode x ≡ x
 unfolding takenCode
 high-same x e = rw e
 
-pub entry-on : (xs ys : List ℕ) (i : ℕ) → onCode ys farMove ≡ farMove → getD (through xs ys) i farMove ≡ onCode ys (getD xs i farMove)
+entry-on : (xs ys : List ℕ) (i : ℕ) → onCode ys farMove ≡ farMove → getD (through xs ys) i farMove ≡ onCode ys (getD xs i farMove)
 unfolding through
 entry-on [] ys i f = sym f
 entry-on (x ∷ xs) ys zero f = refl
 entry-on (x ∷ xs) ys (suc i) f = entry-on xs ys i f
 
-pub far-on : (ys : List ℕ) → length ys < half → onCode ys farMove ≡ farMove
+far-on : (ys : List ℕ) → length ys < half → onCode ys farMove ≡ farMove
 unfolding onCode takenCode
 far-on ys h = rw (List·getD-eq-default ys farMove {n = farMove - half} (omega arith))
 
@@ -47,12 +47,28 @@ taken-on-high : (ys : List ℕ) (x : ℕ) → ltb x half ≡ false → onCode ys
 unfolding onCode
 taken-on-high ys x e = ap (onCode ys) (high-same x e) ∙ rw e (sym (taken-again (getD ys (x - half) farMove)))
 
-pub taken-on : (ys : List ℕ) (x : ℕ) → onCode ys (takenCode x) ≡ takenCode (onCode ys x)
+taken-on : (ys : List ℕ) (x : ℕ) → onCode ys (takenCode x) ≡ takenCode (onCode ys x)
 taken-on ys x = go (ltb x half) refl
   where
     go : (b : Bool) → ltb x half ≡ b → onCode ys (takenCode x) ≡ takenCode (onCode ys x)
     go true e = taken-on-low ys x e
     go false e = taken-on-high ys x e
+
+-- a code through both
+on-both : (xs ys : List ℕ) (c : ℕ) → length ys < half → onCode ys (onCode xs c) ≡ onCode (through xs ys) c
+unfolding onCode
+on-both xs ys c h = go (ltb c half)
+  where
+    go : (b : Bool) → onCode ys (cond b (getD xs c farMove) (takenCode (getD xs (c - half) farMove))) ≡ cond b (getD (through xs ys) c farMove) (takenCode (getD (through xs ys) (c - half) farMove))
+    go true = sym (entry-on xs ys c (far-on ys h))
+    go false = taken-on ys (getD xs (c - half) farMove) ∙ ap takenCode (sym (entry-on xs ys (c - half) (far-on ys h)))
+
+-- going on through two tables is going on through the second one's codes of the first
+pub through-both : (t xs ys : List ℕ) → length ys < half → through (through t xs) ys ≡ through t (through xs ys)
+unfolding through
+through-both [] xs ys h = refl
+through-both (c ∷ t) xs ys h =
+    ap (λ (n : ℕ). n ∷ through (through t xs) ys) (on-both xs ys c h) ∙ ap (λ (l : List ℕ). onCode (through xs ys) c ∷ l) (through-both t xs ys h)
 
 not-zero : (n : ℕ) → eqb (suc n) 0 ≡ false
 not-zero n = ne-eqb (suc n) 0 (omega arith)
