@@ -28,6 +28,7 @@ pub mod Opt
 pub mod Capi
 pub mod Po
 pub mod Origins
+pub mod Trails
 pub mod Reader
 pub mod Recordcapi
 pub mod Pocapi

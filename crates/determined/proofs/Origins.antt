@@ -45,3 +45,6 @@ follow-fixed = fixed origins.follow.Reads.Learnt (λ κs a x y l m. (l ∙ sym m
 
 pub put-records-fixed : Determined origins.put_records.ended (λ κs z. z) origins.put_records.Reads.ensures
 put-records-fixed = fixed origins.put_records.Reads.Learnt (λ κs a x y l m. wrote-once l m)
+
+pub count-standing-fixed : Determined origins.count_standing.ended (λ κs z. z) origins.count_standing.Reads.ensures
+count-standing-fixed = fixed origins.count_standing.Reads.Learnt (λ κs a x y l m. l ∙ sym m)

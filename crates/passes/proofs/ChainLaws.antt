@@ -1,6 +1,7 @@
 -- Laws of running passes one after the other over the front of a buffer. Assumes nothing.
 use Prim.Native.Nat.{ℕ, zero, suc, _+_, _-_, _≤_, _<_}
 use mathlib.Core.Path.{_≡_, refl, sym, ap, _∙_}
+use mathlib.Core.Bool.{true}
 use mathlib.Core.List.{List, _∷_}
 use native.Mathlib.Omega.{arith}
 use native.Mathlib.Numerals.{add-one}
@@ -20,7 +21,6 @@ use Rattle.reading.proofs.ByLine.{ByLine, mode-by-line}
 use Rattle.steps.specs.Step.{stepOf, stepFates}
 use Rattle.steps.specs.Inner.Bounds.{Bounded, Sized, Tabled}
 use Rattle.steps.proofs.Tame.{tame-step, room-fits}
-use Rattle.origins.proofs.Thins.{standing-zeros}
 use Rattle.steps.specs.Inner.Few.{trailed, idleIn}
 use Rattle.steps.proofs.Traces.{lines-half}
 use Rattle.steps.proofs.Trails.{step-led}
@@ -120,6 +120,11 @@ unfolding landGo codesOf codeOf staying
 land-zeros zero o = refl
 land-zeros (suc n) o = ap (λ (l : List ℕ). o ∷ l) (land-zeros n (suc o))
 
+all-stand : (n : ℕ) → standing (replicate n 0) ≡ n
+unfolding standing
+all-stand zero = refl
+all-stand (suc n) = ap suc (all-stand n)
+
 start-few : {L : Limits} (t : List ℕ) → Within L t → length (splitLines t) < half
 start-few t h = let b = between-start t h in omega (arith, lines-half (between-room h b), ap length (lines-unlines (splitLines t) (b .clean)))
 
@@ -135,7 +140,7 @@ chain-start mode k to z {t} {z′ = z′} h w q e =
       so-far = refl;
       now-fates = staying m 0;
       coded = ap (λ (l : List ℕ). landGo l 0) y ∙ land-zeros m 0;
-      stood = ap standing y ∙ standing-zeros m;
+      stood = ap standing y ∙ all-stand m;
       few = omega (arith, start-few t h, ap length y, length-replicate {A = ℕ} m 0);
       goes = goes-stay m;
       so-went = stay-steps mode k (to - k) (splitLines t);
