@@ -34,7 +34,7 @@ same-length-8 : tie.Need-same-length-8
 same-length-8 c = c .before .before .before .before .before .before .before .before .before .before .before .before .before .before .before .before .tidy-small .kept .1 .1 .1 .1 .1 .1 .1 .1 .1 .1 .1 .0
 
 returns : tie.Need-returns
-returns c = let g = c .before .before .before .before .before .before .before .before .before .before .before .before .before .before .before .before .before .before .before .before .before .before .before .before .before .before .before .before .before .before .before .before .before .before .args in let z : g .n - 0 ≡ g .n = omega arith in rw z (c .before .before .before .before .before .before .before .before .before .before .before .before .before .before .before .before .tidy-small .ensures)
+returns c = let g = c .before .before .before .before .before .before .before .before .before .before .before .before .before .before .before .before .before .before .before .before .before .before .before .before .before .before .before .before .before .before .before .before .before .before .args in let z : g .n - 0 ≡ g .n = omega arith in rw (← z) (c .before .before .before .before .before .before .before .before .before .before .before .before .before .before .before .before .tidy-small .ensures)
 
 pub run-stages-spec : {M : Type 1} → statement M
 run-stages-spec =
