@@ -308,7 +308,25 @@ fn other_step(
         );
     }
     if k == 4 {
-        return calls_step(m, rows, src, own, c, d, e, f, u, v, w, x, p, q, r, dst, table);
+        return calls_step(
+            m,
+            rows,
+            src,
+            own,
+            c,
+            d,
+            e,
+            f,
+            u,
+            v,
+            w,
+            x,
+            p,
+            q,
+            r,
+            dst,
+            table,
+        );
     }
     let n = few_step(k, m, src, own, dst, c, d, e, f, g, p, q, r);
     trace(rows, p, table);

@@ -262,7 +262,6 @@ thinned-stay (m ∷ ms) (suc n) = go (eqb m 0) refl (thinned-stay ms n) (thinned
     go true e h k = ap (λ (l : List ℕ). 0 ∷ l) h ∙ ap (λ (x : ℕ). x ∷ ms) (sym (eqb-true m 0 e))
     go false e h k = ap (λ (l : List ℕ). m ∷ l) k
 
-
 -- as many lines stand as by the moves of the pass
 pub thinned-standing : (ms ns : List ℕ) → standing ms ≡ length ns → standing (thinned ms ns) ≡ standing ns
 unfolding thinned standing
