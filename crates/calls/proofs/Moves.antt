@@ -10,7 +10,7 @@ use lib.ListN.{length, drop}
 use Rattle.lines.specs.Lf.{all}
 use Rattle.lines.specs.Acts.{Act, keep, become, into, gone}
 use Rattle.lines.proofs.Tests.{no, and-left, and-right, and-both}
-use Rattle.origins.specs.Inner.Fates.{Fate, at, held, lost, taken, fateAt, fatesGo, fatesOf}
+use Rattle.origins.specs.Fates.{Fate, at, held, lost, taken, fateAt, fatesGo, fatesOf}
 use Rattle.origins.specs.Inner.Codes.{moveOf, movesOf}
 use Rattle.origins.proofs.FateLaws.{fates-length}
 use Rattle.origins.proofs.CodeLaws as codes

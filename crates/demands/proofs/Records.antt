@@ -16,7 +16,7 @@ use Rattle.origins.specs.declared.Went.{Went}
 use Rattle.origins.specs.declared.Went.the-variants.{Equal, Changed, Inside, Away}
 use Rattle.origins.specs.Form.{Shape, formShape, goneOf, sizeOf, recordsFrom, fileOf}
 use Rattle.origins.specs.Answers.{fitsOut, fitsFrom}
-use Rattle.origins.specs.Inner.Fates.{Fate, at, held, lost, fatesOf, follow, staying, wentOf, wentsOf}
+use Rattle.origins.specs.Fates.{Fate, at, held, lost, fatesOf, follow, staying, wentOf, wentsOf}
 use Rattle.origins.proofs.FateLaws.{fates-length, follow-assoc, stay-follow, under, Under, nil, cons, stands, countUp}
 use Rattle.origins.proofs.Tails.{lowers, saidOf, said-tail, records-drop}
 use Rattle.place.specs.Inner.Region.{headed}

@@ -13,7 +13,7 @@ use Rattle.lines.specs.Steps.{splitLines, joined}
 use Rattle.lines.proofs.Tests.{no}
 use Rattle.origins.specs.declared.Form.the-variants as form
 use Rattle.origins.specs.Form.{formShape, fileOf}
-use Rattle.origins.specs.Inner.Fates.{Fate, follow, staying, wentsOf}
+use Rattle.origins.specs.Fates.{Fate, follow, staying, wentsOf}
 use Rattle.origins.proofs.FateLaws.{follow-stay}
 use Rattle.reading.specs.Reading.{Reading, readingOf}
 use Rattle.reading.proofs.ByLine.{ByLine}

@@ -1,7 +1,7 @@
 -- `optimize`: the removal and the six passes in their order. Assumes nothing.
 use Prim.Native.Nat.{ℕ}
 use mathlib.Core.List.{List}
-use Rattle.origins.specs.Inner.Fates.{Fate, follow}
+use Rattle.origins.specs.Fates.{Fate, follow}
 use Rattle.globals.specs.Globals.{removeGlobals}
 use Rattle.reading.specs.Reading.{Reading}
 use Rattle.temps.specs.Temps.{pruneDeadTemps}

@@ -10,7 +10,7 @@ use lib.ListN.{length, getD, List·getD-eq-default}
 use Rattle.lines.proofs.Tests.{and-left, and-right}
 use Rattle.lines.specs.Acts.{Act, keep, become, into, gone}
 use Rattle.lines.specs.Lf.{all}
-use Rattle.origins.specs.Inner.Fates.{Fate, at, held, lost, taken, fateAt, fatesGo, onward, follow}
+use Rattle.origins.specs.Fates.{Fate, at, held, lost, taken, fateAt, fatesGo, onward, follow}
 use Rattle.origins.specs.Inner.Codes.{farMove, moveOf, movesOf, half, codeOf, codesOf, takenCode, landGo, onCode, through, standing}
 use Rattle.origins.proofs.FateLaws.{outs, under, Under, cons, under-at, fates-under, fates-length}
 

@@ -8,7 +8,7 @@ use Rattle.lines.specs.Lf.{same, word}
 use Rattle.origins.specs.declared.Went.{Went}
 use Rattle.origins.specs.declared.Went.the-variants.{Equal, Changed, Inside, Away}
 use Rattle.origins.specs.declared.Form.the-variants.{Ol, Om}
-use Rattle.origins.specs.Inner.Fates.{at, held, lost, fatesOf, follow, wentsOf}
+use Rattle.origins.specs.Fates.{at, held, lost, fatesOf, follow, wentsOf}
 use Rattle.origins.specs.Form.{Shape, formShape, goneOf, sizeOf, fileOf}
 use Rattle.origins.specs.Read.{readFile, says, wrong}
 use Rattle.origins.specs.Answers.{linesFor, found, refused, turn, turned, denied}

@@ -6,7 +6,7 @@ use native.Mathlib.Omega.{arith}
 use native.Mathlib.Nat.{zero-add, suc-add}
 use lib.ListN.{length, drop, length-append}
 use Rattle.lines.specs.Acts.{Act, keep, become, into, gone, act, apply}
-use Rattle.origins.specs.Inner.Fates.{Fate, at, held, lost, taken, fateAt, fatesGo, fatesOf, onward, follow, staying}
+use Rattle.origins.specs.Fates.{Fate, at, held, lost, taken, fateAt, fatesGo, fatesOf, onward, follow, staying}
 
 -- ---- one pass
 

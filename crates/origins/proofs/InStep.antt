@@ -11,7 +11,7 @@ use lib.Seq.{getD-drop, drop-drop}
 use Rattle.lines.proofs.Tests.{no}
 use Rattle.origins.specs.declared.Went.{Went}
 use Rattle.origins.specs.declared.Went.the-variants.{Inside, Away}
-use Rattle.origins.specs.Inner.Fates.{Fate, at, held, lost, wentOf, wentsOf}
+use Rattle.origins.specs.Fates.{Fate, at, held, lost, wentOf, wentsOf}
 use Rattle.origins.specs.Inner.Codes.{farMove, half, codeOf, codesOf}
 use Rattle.origins.specs.Inner.Written.{saidOne, leftOver, wentsBy}
 use Rattle.origins.proofs.FateLaws.{under, Under, cons, stands, countUp}

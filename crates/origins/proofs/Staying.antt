@@ -10,7 +10,7 @@ use lib.Dec.{eqb}
 use lib.ListN.{length, drop, getD, replicate, drop-of-length-le}
 use lib.Seq.{drop-cons}
 use Rattle.lines.proofs.Tests.{and-left, and-right, and-true}
-use Rattle.origins.specs.Inner.Fates.{Fate, at, held, lost, staying}
+use Rattle.origins.specs.Fates.{Fate, at, held, lost, staying}
 use Rattle.origins.specs.Inner.Codes.{half, codeOf, codesOf, landGo, through, standing, allStay}
 use Rattle.origins.proofs.FateLaws.{under, Under, nil, cons, follow-stay}
 use Rattle.origins.proofs.CodeLaws.{through-follow}

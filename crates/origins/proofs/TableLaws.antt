@@ -12,7 +12,7 @@ use lib.ListN.{length, take, drop, getD, set, length-append, length-take, length
 use lib.Seq.{drop-cons, take-length, drop-length, drop-append-add, getD-append-add}
 use Rattle.lines.specs.Inner.Out.{Wrote}
 use Rattle.lines.proofs.OutLaws.{wrote-byte, wrote-as, wrote-nil, wrote-more, wrote-whole}
-use Rattle.origins.specs.Inner.Fates.{staying}
+use Rattle.origins.specs.Fates.{staying}
 use Rattle.origins.specs.Inner.Codes.{codeOf, codesOf, farMove, noteOf, half, takenCode, landGo, onCode, through, standing}
 
 -- inside a list it is all one what stands past its end

@@ -10,7 +10,7 @@ use lib.Seq.{getD-append-add, drop-at}
 use Rattle.lines.specs.Acts.{Act, apply}
 use Rattle.lines.specs.Lf.{same}
 use Rattle.lines.proofs.ActLaws.{apply-append}
-use Rattle.origins.specs.Inner.Fates.{Fate, at, held, lost, fatesOf, wentOf, wentsOf}
+use Rattle.origins.specs.Fates.{Fate, at, held, lost, fatesOf, wentOf, wentsOf}
 use Rattle.origins.specs.declared.Went.{Went}
 use Rattle.origins.specs.declared.Went.the-variants.{Equal, Changed, Inside, Away}
 use Rattle.origins.specs.Form.{Shape, sizeOf, recordBytes, recordsFrom}

@@ -12,9 +12,10 @@ use Rattle.lines.specs.Acts.{Act, keep, become, into, gone, act, apply}
 use Rattle.lines.specs.Lf.{upTo, all}
 use Rattle.lines.specs.Inner.Out.{putAt, Wrote}
 use Rattle.lines.proofs.Tests.{no, and-left, and-right, and-both}
-use Rattle.origins.specs.Inner.Fates.{Fate, lost, fateAt, fatesGo, fatesOf, onward, follow}
+use Rattle.origins.specs.Fates.{Fate, lost, fateAt, fatesGo, fatesOf, onward, follow}
 use Rattle.origins.specs.Inner.Codes.{farMove, moveOf, movesOf, standing}
-use Rattle.origins.specs.Inner.Thin.{stays, onAct, thenActs, thin}
+use Rattle.origins.specs.Thin.{stays, onAct, thenActs}
+use Rattle.origins.specs.Inner.Thin.{thin}
 use Rattle.origins.proofs.FateLaws.{outs-apply}
 use Rattle.origins.proofs.CodeLaws.{sound, standing-outs}
 use Rattle.origins.proofs.Notes.{plainly}

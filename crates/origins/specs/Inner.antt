@@ -1,4 +1,3 @@
-pub mod Fates
 pub mod Codes
 pub mod Written
 pub mod Thin

@@ -8,7 +8,7 @@ ghost use lib.ListN.{length, getD, set, take, drop, replicate};
 ghost use Rattle.lines.specs.Lf.{part, upTo, prefixed, same, linesOf, lowBytes};
 ghost use Rattle.lines.specs.Steps.{splitLines};
 ghost use Rattle.lines.specs.Inner.Out.{Wrote};
-ghost use Rattle.origins.specs.Inner.Fates.{staying};
+ghost use Rattle.origins.specs.Fates.{staying};
 ghost use Rattle.origins.specs.Form.{formShape, goneOf, sizeOf, fateByte, outLine, recordBytes, fileOf};
 ghost use Rattle.origins.specs.Inner.Codes.{half, farMove, noteOf, codesOf, takenCode, landGo, onCode, through, standing, allStay};
 ghost use Rattle.origins.specs.Inner.Written.{saidFirst, firstIs, firstEnd, wentsBy, bareBy};

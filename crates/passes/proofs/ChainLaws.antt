@@ -12,7 +12,7 @@ use Rattle.lines.specs.Steps.{splitLines}
 use Rattle.lines.proofs.LfLaws.{lines-unlines}
 use Rattle.lines.proofs.StepLaws.{split-room}
 use Rattle.lines.proofs.OutLaws.{wrote-length, wrote-part}
-use Rattle.origins.specs.Inner.Fates.{Fate, follow, staying}
+use Rattle.origins.specs.Fates.{Fate, follow, staying}
 use Rattle.origins.specs.Inner.Codes.{half, codeOf, codesOf, landGo, through, standing}
 use Rattle.origins.proofs.FateLaws.{follow-assoc, stay-follow, follow-stay}
 use Rattle.origins.proofs.CodeLaws.{through-follow}

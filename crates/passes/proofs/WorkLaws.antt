@@ -16,7 +16,7 @@ use Rattle.slots.proofs.SlotLaws.{wiped-zeros}
 use Rattle.origins.specs.declared.Form.the-variants as form
 use Rattle.origins.specs.declared.Went.{Went}
 use Rattle.origins.specs.Form.{formShape, fileOf}
-use Rattle.origins.specs.Inner.Fates.{Fate, wentsOf}
+use Rattle.origins.specs.Fates.{Fate, wentsOf}
 use Rattle.origins.specs.Inner.Codes.{half, codesOf}
 use Rattle.origins.specs.Inner.Written.{leftOver, wentsBy}
 use Rattle.origins.proofs.RoundTrip.{file-length}

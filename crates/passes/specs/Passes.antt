@@ -6,7 +6,7 @@ use Rattle.lines.specs.Lf.{endsIn}
 use Rattle.lines.specs.Steps.{splitLines, joined}
 use Rattle.origins.specs.declared.Form.the-variants as form
 use Rattle.origins.specs.Form.{formShape, fileOf}
-use Rattle.origins.specs.Inner.Fates.{Fate, wentsOf}
+use Rattle.origins.specs.Fates.{Fate, wentsOf}
 
 -- the text that a text becomes, where its lines become others
 unfoldable pub resultOf : (List (List ℕ) → List (List ℕ)) → List ℕ → List ℕ

@@ -11,15 +11,16 @@ use Rattle.lines.specs.Inner.Out.{putAt, Wrote}
 use Rattle.lines.proofs.Tests.{and-both}
 use Rattle.lines.proofs.LfLaws.{lines-at, lines-end}
 use Rattle.lines.proofs.OutLaws.{wrote-as, wrote-length}
-use Rattle.origins.specs.Inner.Fates.{fatesOf, follow}
+use Rattle.origins.specs.Fates.{fatesOf, follow}
 use Rattle.origins.specs.Inner.Codes.{moveOf, movesOf, noteOf, standing}
-use Rattle.origins.specs.Inner.Thin.{thenActs, thin}
+use Rattle.origins.specs.Thin.{thenActs}
+use Rattle.origins.specs.Inner.Thin.{thin}
 use Rattle.origins.proofs.Notes.{plainly, note-act, moves-length}
 use Rattle.origins.proofs.Thins.{then-length, then-plain, then-apply, then-moves, then-fates, standing-acts, thin-step, thin-left, thin-none, thin-stay, thin-zeros, thin-front, thin-standing, standing-zeros}
 use Rattle.reading.specs.Reading.{Reading}
 use Rattle.phis.specs.Phis.{anyDead, phiAct, phiActs, keeps, roundActs, round, pruneDeadPhis}
 use Rattle.phis.specs.Inner.Rounds.{changeText}
-use Rattle.phis.specs.Inner.Moves.{pruneDeadPhisActs}
+use Rattle.phis.specs.Moves.{pruneDeadPhisActs}
 use Rattle.phis.proofs.Keeps.{none-into, none-dead}
 
 -- ---- the acts of a round

@@ -1,2 +1,3 @@
 pub mod Phis
+pub mod Moves
 pub mod Inner

@@ -18,7 +18,7 @@ ghost use Rattle.reading.specs.Assign.{isAssign, rightOf};
 ghost use Rattle.origins.specs.Inner.Codes.{movesOf, standing};
 ghost use Rattle.origins.specs.Inner.Thin.{thin};
 ghost use Rattle.phis.specs.Phis.{isPhi, allPhis, phiDecl, anyPhi, phiStore, phiOwn, phiReads, phiRead, phiStored, deadPhi, phiDead, anyDead, roundActs, round, pruneDeadPhis};
-ghost use Rattle.phis.specs.Inner.Moves.{pruneDeadPhisActs};
+ghost use Rattle.phis.specs.Moves.{pruneDeadPhisActs};
 ghost use Rattle.phis.specs.Inner.Table.{Tells};
 ghost use Rattle.phis.specs.Inner.Rounds.{live, storeText, changeText, longest};
 

@@ -8,8 +8,8 @@ use native.Mathlib.Omega.{arith}
 use lib.Dec.{eqb}
 use lib.ListN.{length}
 use Rattle.lines.specs.Acts.{Act, apply}
-use Rattle.origins.specs.Inner.Fates.{Fate, at, held, lost, taken, fateAt, fatesOf, onward, follow, staying}
-use Rattle.origins.specs.Inner.Thin.{thenActs}
+use Rattle.origins.specs.Fates.{Fate, at, held, lost, taken, fateAt, fatesOf, onward, follow, staying}
+use Rattle.origins.specs.Thin.{thenActs}
 use Rattle.origins.proofs.FateLaws.{fates-length, outs-apply, follow-length, under, Under, nil, cons, stands, countUp, stands-all, under-at, fates-under, stands-follow}
 use Rattle.origins.proofs.Thins.{then-length, then-apply}
 use Rattle.reading.specs.Reading.{Reading}
@@ -20,7 +20,7 @@ use Rattle.temps.specs.Temps.{pruneDeadTempsActs, pruneDeadTemps}
 use Rattle.temps.proofs.PassLaws.{temps-length}
 use Rattle.once.specs.Once.{onceActs, optimizeOnce}
 use Rattle.phis.specs.Phis.{roundActs, round, pruneDeadPhis}
-use Rattle.phis.specs.Inner.Moves.{pruneDeadPhisActs}
+use Rattle.phis.specs.Moves.{pruneDeadPhisActs}
 use Rattle.phis.proofs.Moves.{round-length}
 use Rattle.calls.specs.LeavesOf.{leavesOf}
 use Rattle.calls.specs.Calls.{rebuildCallsActs, rebuildCalls}

@@ -23,7 +23,7 @@ use Rattle.temps.proofs.PassLaws.{temps-length}
 use Rattle.temps.proofs.Lacks as temps-laws
 use Rattle.names.specs.Names.{phiWord}
 use Rattle.phis.specs.Phis.{pruneDeadPhis}
-use Rattle.phis.specs.Inner.Moves.{pruneDeadPhisActs}
+use Rattle.phis.specs.Moves.{pruneDeadPhisActs}
 use Rattle.phis.proofs.Held.{held-dead}
 use Rattle.phis.proofs.Moves.{calm-lines, calm-moves}
 use Rattle.steps.specs.Step.{stepOf}

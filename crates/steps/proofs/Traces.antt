@@ -14,7 +14,7 @@ use Rattle.lines.specs.Inner.Out.{Wrote}
 use Rattle.lines.proofs.Tests.{no, and-both}
 use Rattle.lines.proofs.ActLaws.{keeps, apply-length}
 use Rattle.lines.proofs.OutLaws.{wrote-part}
-use Rattle.origins.specs.Inner.Fates.{Fate, fatesOf, follow}
+use Rattle.origins.specs.Fates.{Fate, fatesOf, follow}
 use Rattle.origins.specs.Inner.Codes.{half, moveOf, movesOf, codesOf, landGo, through, standing}
 use Rattle.origins.proofs.FateLaws.{outs, outs-apply, Under, fates-under, fates-length}
 use Rattle.origins.proofs.CodeLaws.{sound, land-fates, standing-outs, through-follow}
@@ -32,7 +32,7 @@ use Rattle.temps.specs.Temps.{deadTemp, tempAct, tempActs, pruneDeadTempsActs}
 use Rattle.decls.specs.Decls.{declAct, keepNames, actOf, actsGo, pruneDeclsActs}
 use Rattle.decls.proofs.Passes.{acts-length}
 use Rattle.decls.proofs.Moves.{decl-plain}
-use Rattle.phis.specs.Inner.Moves.{pruneDeadPhisActs}
+use Rattle.phis.specs.Moves.{pruneDeadPhisActs}
 use Rattle.phis.proofs.Moves.{phis-plain}
 use Rattle.once.specs.Once.{onceActs}
 use Rattle.once.specs.Inner.Tables.{onceMarks}

@@ -8,7 +8,7 @@ use lib.ListN.{length, replicate, length-replicate}
 use Rattle.lines.specs.Lf.{all}
 use Rattle.lines.specs.Acts.{Act, keep, apply}
 use Rattle.lines.proofs.ActLaws.{keeps, apply-keep}
-use Rattle.origins.specs.Inner.Fates.{Fate, at, fatesGo, fatesOf, follow, staying}
+use Rattle.origins.specs.Fates.{Fate, at, fatesGo, fatesOf, follow, staying}
 use Rattle.origins.specs.Inner.Codes.{half, movesOf, codesOf, landGo, through, standing}
 use Rattle.origins.proofs.CodeLaws.{sound}
 use Rattle.trails.specs.Inner.Trails.{thinned}
@@ -22,7 +22,7 @@ use Rattle.temps.proofs.PassLaws.{temps-length}
 use Rattle.once.specs.Once.{onceActs, optimizeOnce}
 use Rattle.once.proofs.Moves.{once-sound}
 use Rattle.phis.specs.Phis.{pruneDeadPhis}
-use Rattle.phis.specs.Inner.Moves.{pruneDeadPhisActs}
+use Rattle.phis.specs.Moves.{pruneDeadPhisActs}
 use Rattle.phis.proofs.Moves.{phis-length, phis-plain, phis-apply}
 use Rattle.calls.specs.LeavesOf.{leavesOf}
 use Rattle.calls.specs.Calls.{rebuildCallsActs, rebuildCalls}

@@ -5,13 +5,13 @@ use mathlib.Core.List.{List}
 use lib.Dec.{eqb}
 use lib.ListN.{length}
 use Rattle.lines.specs.Acts.{apply}
-use Rattle.origins.specs.Inner.Fates.{Fate, fatesOf, follow, staying}
+use Rattle.origins.specs.Fates.{Fate, fatesOf, follow, staying}
 use Rattle.globals.specs.Globals.{globalsActs, removeGlobals}
 use Rattle.reading.specs.Reading.{Reading}
 use Rattle.temps.specs.Temps.{pruneDeadTempsActs, pruneDeadTemps}
 use Rattle.once.specs.Once.{onceActs, optimizeOnce}
 use Rattle.phis.specs.Phis.{pruneDeadPhis}
-use Rattle.phis.specs.Inner.Moves.{pruneDeadPhisActs}
+use Rattle.phis.specs.Moves.{pruneDeadPhisActs}
 use Rattle.calls.specs.Calls.{rebuildCallsActs, rebuildCalls}
 use Rattle.calls.specs.LeavesOf.{leavesOf}
 use Rattle.decls.specs.Decls.{pruneDeclsActs, pruneDecls}

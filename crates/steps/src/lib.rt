@@ -11,7 +11,7 @@ ghost use Rattle.reading.specs.Reading.{readingOf};
 ghost use Rattle.temps.specs.Temps.{pruneDeadTempsActs, pruneDeadTemps};
 ghost use Rattle.once.specs.Once.{onceActs, optimizeOnce};
 ghost use Rattle.phis.specs.Phis.{pruneDeadPhis};
-ghost use Rattle.phis.specs.Inner.Moves.{pruneDeadPhisActs};
+ghost use Rattle.phis.specs.Moves.{pruneDeadPhisActs};
 ghost use Rattle.decls.specs.Decls.{pruneDeclsActs};
 ghost use Rattle.calls.specs.LeavesOf.{leavesOf};
 ghost use Rattle.calls.specs.Calls.{rebuildCallsActs, rebuildCalls};

@@ -6,7 +6,7 @@ use borrow.Author.Needs.{needs}
 use lib.ListN.{length}
 use Rattle.lines.specs.Inner.Out.{Wrote}
 use Rattle.lines.proofs.OutLaws.{wrote-length}
-use Rattle.origins.specs.Inner.Fates.{staying}
+use Rattle.origins.specs.Fates.{staying}
 use Rattle.origins.specs.Inner.Codes.{codesOf}
 use Rattle.origins.proofs.TableLaws.{start-none, start-on, start-end}
 use Rattle.origins.proofs.start.Statement.{statement}

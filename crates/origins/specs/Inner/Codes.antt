@@ -5,7 +5,7 @@ use mathlib.Core.List.{List, [], _∷_}
 use lib.ListN.{getD}
 use lib.Dec.{eqb, ltb}
 use Rattle.lines.specs.Acts.{Act, keep, become, into, gone}
-use Rattle.origins.specs.Inner.Fates.{Fate, at, held, lost}
+use Rattle.origins.specs.Fates.{Fate, at, held, lost}
 
 -- ---- moves: how far down a line goes, 0 where it stands; past the last line where it is gone
 

@@ -3,7 +3,7 @@ use Prim.Native.Nat.{ℕ, zero, suc}
 use mathlib.Core.List.{List}
 use Rattle.reading.specs.Reading.{Reading}
 use lib.ListN.{length}
-use Rattle.origins.specs.Inner.Fates.{Fate, follow, staying}
+use Rattle.origins.specs.Fates.{Fate, follow, staying}
 use Rattle.steps.specs.Step.{stepOf, stepFates}
 
 -- n steps from step k on

@@ -14,7 +14,7 @@ use Rattle.trails.specs.Inner.Trails.{thinned}
 use Rattle.reading.specs.Reading.{Reading}
 use Rattle.globals.specs.Globals.{globalsActs}
 use Rattle.temps.specs.Temps.{pruneDeadTempsActs}
-use Rattle.phis.specs.Inner.Moves.{pruneDeadPhisActs}
+use Rattle.phis.specs.Moves.{pruneDeadPhisActs}
 use Rattle.once.specs.Once.{onceActs}
 use Rattle.calls.specs.LeavesOf.{leavesOf}
 use Rattle.calls.specs.Calls.{rebuildCallsActs}

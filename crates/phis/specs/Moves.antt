@@ -2,7 +2,7 @@
 use mathlib.Core.List.{List}
 use Prim.Native.Nat.{ℕ}
 use Rattle.lines.specs.Acts.{Act}
-use Rattle.origins.specs.Inner.Thin.{thenActs}
+use Rattle.origins.specs.Thin.{thenActs}
 use Rattle.reading.specs.Reading.{Reading}
 use Rattle.phis.specs.Phis.{roundActs, round}
 
