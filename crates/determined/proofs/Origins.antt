@@ -37,12 +37,6 @@ note-next-fixed = fixed origins.note_next.Reads.Learnt (λ κs a x y l m. wrote-
 pub land-fixed : Determined origins.land.ended (λ κs z. z) origins.land.Reads.ensures
 land-fixed = fixed-by origins.land.Reads.Learnt (λ w κs a x. more w (one w)) (λ κs a x y l m. (l .1 ∙ sym (m .1), l .0 ∙ sym (m .0)))
 
-pub start-fixed : Determined origins.start.ended (λ κs z. z) origins.start.Reads.ensures
-start-fixed = fixed origins.start.Reads.Learnt (λ κs a x y l m. (l ∙ sym m, refl))
-
-pub follow-fixed : Determined origins.follow.ended (λ κs z. z) origins.follow.Reads.ensures
-follow-fixed = fixed origins.follow.Reads.Learnt (λ κs a x y l m. (l ∙ sym m, refl))
-
 pub put-records-fixed : Determined origins.put_records.ended (λ κs z. z) origins.put_records.Reads.ensures
 put-records-fixed = fixed origins.put_records.Reads.Learnt (λ κs a x y l m. wrote-once l m)
 

@@ -2,7 +2,6 @@ pub mod FateLaws
 pub mod CodeLaws
 pub mod TableLaws
 pub mod Notes
-pub mod Staying
 pub mod RoundTrip
 pub mod Tails
 pub mod Turns

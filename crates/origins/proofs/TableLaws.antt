@@ -41,22 +41,6 @@ pub land-down : (below : List ℕ) (d r x : ℕ) → 0 < d → x ≡ getD below 
 land-down below zero r x h p q = absurd (omega arith)
 land-down below (suc d) r x h p q = let e : suc d - 1 ≡ d = omega arith in q ∙ ap takenCode (p ∙ ap (λ (k : ℕ). getD below k farMove) e)
 
-pub on-in : (gs : List ℕ) (c : ℕ) → c < length gs → length gs ≤ half → getD gs c 0 ≡ onCode gs c
-unfolding onCode
-on-in gs c h k = rw (lt-ltb c half (omega arith)) (in-any gs c 0 farMove h)
-
-pub on-out : (gs : List ℕ) (c : ℕ) → length gs ≤ c → c < half → farMove ≡ onCode gs c
-unfolding onCode
-on-out gs c h k = rw (lt-ltb c half k) (sym (List·getD-eq-default gs farMove {n = c} h))
-
-pub on-far : (gs : List ℕ) (c : ℕ) → c ≡ farMove → length gs < half → farMove ≡ onCode gs c
-unfolding onCode takenCode
-on-far gs c e k = rw (e, List·getD-eq-default gs farMove {n = farMove - half} (omega arith))
-
-pub on-high : (gs : List ℕ) (c r x : ℕ) → half ≤ c → x ≡ getD gs (c - half) farMove → r ≡ takenCode x → r ≡ onCode gs c
-unfolding onCode
-on-high gs c r x h p q = rw (le-ltb c half h) (q ∙ ap takenCode p)
-
 -- ---- counting the lines that stand
 
 pub standing-here : (m : List ℕ) (i : ℕ) → i < length m → getD m i 0 ≡ 0 → standing (drop i m) ≡ suc (standing (drop (i + 1) m))
@@ -221,69 +205,10 @@ module _ {m₀ m : List ℕ} {k s : ℕ} (h : LandInv m₀ m (suc k) s) where
 
 -- ---- going on through a table
 
-through-append : (xs ys gs : List ℕ) → through (xs ++ ys) gs ≡ through xs gs ++ through ys gs
-unfolding through
-through-append [] ys gs = refl
-through-append (x ∷ xs) ys gs = ap (λ (r : List ℕ). onCode gs x ∷ r) (through-append xs ys gs)
-
 pub through-length : (xs gs : List ℕ) → length (through xs gs) ≡ length xs
 unfolding through
 through-length [] gs = refl
 through-length (x ∷ xs) gs = ap suc (through-length xs gs)
-
-pub record FollowInv (t₀ gs t : List ℕ) (i : ℕ) : Type 0 where
-  pub i≤ : i ≤ length t₀
-  pub are : t ≡ through (take i t₀) gs ++ drop i t₀
-
-pub follow-start : (t gs : List ℕ) → FollowInv t gs t 0
-unfolding through
-follow-start t gs = record { i≤ = omega arith; are = refl }
-
-pub follow-long : {t₀ gs t : List ℕ} {i : ℕ} → FollowInv t₀ gs t i → length t ≡ length t₀
-follow-long {t₀ = t₀} {gs = gs} {i = i} h =
-    ap length (h .are) ∙ omega (arith, length-append (through (take i t₀) gs) (drop i t₀), through-length (take i t₀) gs, length-take i t₀, length-drop i t₀, h .i≤)
-
-pub follow-end : {t₀ gs t : List ℕ} {i : ℕ} → FollowInv t₀ gs t i → length t ≤ i → t ≡ through t₀ gs
-follow-end {t₀ = t₀} {gs = gs} {i = i} h q =
-    let e : i ≡ length t₀ = omega (arith, follow-long h, h .i≤) in
-    h .are
-    ∙ ap (λ (n : ℕ). through (take n t₀) gs ++ drop n t₀) e
-    ∙ ap (λ (l : List ℕ). through (take (length t₀) t₀) gs ++ l) (drop-length t₀)
-    ∙ append-nil (through (take (length t₀) t₀) gs)
-    ∙ ap (λ (l : List ℕ). through l gs) (take-length t₀)
-
-module _ {t₀ gs t : List ℕ} {i : ℕ} (h : FollowInv t₀ gs t i) (k : i < length t) where
-  in-i : i < length t₀
-  in-i = omega (arith, follow-long h)
-
-  done : length (through (take i t₀) gs) ≡ i
-  done = omega (arith, through-length (take i t₀) gs, length-take i t₀, h .i≤)
-
-  spread : t ≡ through (take i t₀) gs ++ (getD t₀ i 0 ∷ drop (suc i) t₀)
-  spread = h .are ∙ ap (λ (l : List ℕ). through (take i t₀) gs ++ l) (drop-cons t₀ i 0 in-i)
-
-  pub entry-is : getD t i 0 ≡ getD t₀ i 0
-  entry-is =
-      let q : i ≡ length (through (take i t₀) gs) + 0 = omega (arith, done) in
-      ap (λ (l : List ℕ). getD l i 0) spread
-      ∙ ap (λ (n : ℕ). getD (through (take i t₀) gs ++ (getD t₀ i 0 ∷ drop (suc i) t₀)) n 0) q
-      ∙ getD-append-add (through (take i t₀) gs) (getD t₀ i 0 ∷ drop (suc i) t₀) 0 0
-
-  pub follow-on : (r : ℕ) → r ≡ onCode gs (getD t i 0) → FollowInv t₀ gs (set t i r) (i + 1)
-  unfolding through
-  follow-on r q =
-      let e : suc i ≡ i + 1 = omega arith in
-      record {
-        i≤ = omega (arith, in-i);
-        are =
-            ap (λ (l : List ℕ). set l i r) spread
-            ∙ ap (λ (n : ℕ). set (through (take i t₀) gs ++ (getD t₀ i 0 ∷ drop (suc i) t₀)) n r) (sym done)
-            ∙ set-seam (through (take i t₀) gs) (getD t₀ i 0) r (drop (suc i) t₀)
-            ∙ ap (λ (c : ℕ). through (take i t₀) gs ++ (c ∷ drop (suc i) t₀)) (q ∙ ap (onCode gs) entry-is)
-            ∙ sym (append-assoc (through (take i t₀) gs) (onCode gs (getD t₀ i 0) ∷ []) (drop (suc i) t₀))
-            ∙ ap (λ (l : List ℕ). l ++ drop (suc i) t₀) (sym (ap (λ (l : List ℕ). through l gs) (take-snoc t₀ i in-i) ∙ through-append (take i t₀) (getD t₀ i 0 ∷ []) gs))
-            ∙ ap (λ (n : ℕ). through (take n t₀) gs ++ drop n t₀) e;
-      }
 
 -- ---- one line of a table
 
@@ -318,27 +243,3 @@ rest-all n m = ap (λ (j : ℕ). take j (drop n m)) (sym (length-drop n m)) ∙ 
 
 pub line-down : (m : List ℕ) (k r x : ℕ) → r ≡ takenCode (getD (farMove ∷ take (length m - (k + 1)) (drop (k + 1) m)) x farMove) → r ≡ takenCode (getD (farMove ∷ drop (k + 1) m) x farMove)
 line-down m k r x h = h ∙ ap (λ (l : List ℕ). takenCode (getD (farMove ∷ l) x farMove)) (rest-all (k + 1) m)
-
--- ---- a table of lines that all stay
-
-code-more : (i o : ℕ) → codesOf (staying i o) ++ ((o + i) ∷ []) ≡ codesOf (staying (suc i) o)
-unfolding codesOf codeOf staying
-code-more zero o = ap (λ (n : ℕ). n ∷ []) (add-zero o)
-code-more (suc i) o = let q : o + suc i ≡ suc o + i = omega arith in ap (λ (l : List ℕ). o ∷ l) (ap (λ (n : ℕ). codesOf (staying i (suc o)) ++ (n ∷ [])) q ∙ code-more i (suc o))
-
-pub staying-codes : (n o : ℕ) → length (codesOf (staying n o)) ≡ n
-unfolding codesOf staying
-staying-codes zero o = refl
-staying-codes (suc n) o = ap suc (staying-codes n (suc o))
-
-pub start-none : (d : List ℕ) → Wrote d 0 (codesOf (staying 0 0)) d 0
-unfolding codesOf staying
-start-none d = wrote-nil d 0 (omega arith)
-
-pub start-on : {d₀ d : List ℕ} {i : ℕ} → i < length d → Wrote d₀ 0 (codesOf (staying i 0)) d i → Wrote d₀ 0 (codesOf (staying (i + 1) 0)) (set d i i) (i + 1)
-start-on {i = i} h w =
-    let q : 0 + i ≡ i = zero-add i in
-    wrote-as (ap (λ (n : ℕ). codesOf (staying i 0) ++ (n ∷ [])) (sym q) ∙ code-more i 0 ∙ ap (λ (n : ℕ). codesOf (staying n 0)) (sym (add-one i))) (wrote-more i w h)
-
-pub start-end : {d₀ d : List ℕ} {i n : ℕ} → i ≡ n → n ≡ length d₀ → Wrote d₀ 0 (codesOf (staying i 0)) d i → d ≡ codesOf (staying n 0)
-start-end {i = i} e h w = wrote-whole w (staying-codes i 0 ∙ e ∙ h) ∙ ap (λ (k : ℕ). codesOf (staying k 0)) e

@@ -8,9 +8,8 @@ ghost use lib.ListN.{length, getD, set, take, drop, replicate};
 ghost use Rattle.lines.specs.Lf.{part, upTo, prefixed, same, linesOf, lowBytes};
 ghost use Rattle.lines.specs.Steps.{splitLines};
 ghost use Rattle.lines.specs.Inner.Out.{Wrote};
-ghost use Rattle.origins.specs.Fates.{staying};
 ghost use Rattle.origins.specs.Form.{formShape, goneOf, sizeOf, fateByte, outLine, recordBytes, fileOf};
-ghost use Rattle.origins.specs.Inner.Codes.{half, farMove, noteOf, codesOf, takenCode, landGo, onCode, through, standing, allStay};
+ghost use Rattle.origins.specs.Inner.Codes.{half, farMove, noteOf, takenCode, landGo, standing};
 ghost use Rattle.origins.specs.Inner.Written.{saidFirst, firstIs, firstEnd, wentsBy, bareBy};
 
 // What a record says of a line: it is kept with equal bytes as an output line, kept with other bytes, its value is inside one, or it is away.
@@ -174,59 +173,6 @@ pub fn land(moves: &mut [usize]) -> usize
         k -= 1;
     }
     n
-}
-
-// Whether all lines stay. It goes on to the end, so that the compiler takes many numbers at a time.
-pub fn all_stay(moves: &[usize]) -> bool
-    ensures { λ r. ⌜ r ≡ allStay (now (moves .entry)) ⌝ }
-{
-    let mut any = 0;
-    let mut i = 0;
-    while i < moves.len() {
-        any = any | moves[i];
-        i += 1;
-    }
-    any == 0
-}
-
-// Fills a table with the codes of lines that all stay: 0, 1, 2, ..
-pub fn start(table: &mut [usize])
-    ensures { λ _. ⌜ now (table .exit) ≡ codesOf (staying (length (now (table .entry))) 0) ⌝ }
-{
-    let mut i = 0;
-    while i < table.len() {
-        table[i] = i;
-        i += 1;
-    }
-}
-
-// Where a line of the code `c` is, when the lines there have these codes.
-fn on_code(codes: &[usize], c: usize) -> usize
-    ensures { λ r. ⌜ r ≡ onCode (now (codes .entry)) c ⌝ }
-{
-    if c < codes.len() {
-        return codes[c];
-    }
-    if c == FAR {
-        return FAR;
-    }
-    if c < HALF {
-        return FAR;
-    }
-    let d = code_at(codes, c - HALF);
-    taken_code(d)
-}
-
-// Takes each code of a table on through the codes of the next pass.
-pub fn follow(table: &mut [usize], codes: &[usize])
-    ensures { λ _. ⌜ now (table .exit) ≡ through (now (table .entry)) (now (codes .entry)) ⌝ }
-{
-    let mut i = 0;
-    while i < table.len() {
-        let c = table[i];
-        table[i] = on_code(codes, c);
-        i += 1;
-    }
 }
 
 // How many bytes a line has in a form.

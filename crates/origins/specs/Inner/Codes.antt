@@ -1,6 +1,6 @@
 -- Fates as numbers, as the tables have them. Assumes nothing.
 use Prim.Native.Nat.{ℕ, suc, _+_, _-_}
-use mathlib.Core.Bool.{Bool, true, cond, _&&_}
+use mathlib.Core.Bool.{cond}
 use mathlib.Core.List.{List, [], _∷_}
 use lib.ListN.{getD}
 use lib.Dec.{eqb, ltb}
@@ -66,8 +66,3 @@ through (c ∷ cs) gs = onCode gs c ∷ through cs gs
 unfoldable pub standing : List ℕ → ℕ
 standing [] = 0
 standing (m ∷ ms) = cond (eqb m 0) (suc (standing ms)) (standing ms)
-
--- all lines stay
-unfoldable pub allStay : List ℕ → Bool
-allStay [] = true
-allStay (m ∷ ms) = eqb m 0 && allStay ms
