@@ -464,7 +464,7 @@ passOn (Unfit i) = NoRoom i
 passOn (Short i) = Short i
 passOn (NoRoom i) = NoRoom i
 
-pass-is : (c j : ℕ) → passOn (refusal c j) ≡ cond (eqb c 6) (NoRoom j) (refusal c j)
+pub pass-is : (c j : ℕ) → passOn (refusal c j) ≡ cond (eqb c 6) (NoRoom j) (refusal c j)
 pass-is zero j = refl
 pass-is (suc zero) j = refl
 pass-is (suc (suc zero)) j = refl

@@ -7,6 +7,7 @@ use native.Mathlib.Omega.{arith}
 use borrow.Author.Tests.{le-ltb}
 use lib.ListN.{length}
 use Rattle.origins.specs.declared.Went.{Went}
+use Rattle.origins.specs.declared.Went.the-variants.{Equal, Changed, Inside, Away}
 use Rattle.origins.specs.declared.Form.{Form}
 use Rattle.origins.specs.declared.Form.the-variants.{Ol, Om}
 use Rattle.origins.specs.Form.{Shape, formShape, goneOf, fileOf}
@@ -16,6 +17,7 @@ use Rattle.origins.proofs.RoundTrip.{bytes, read-file, write-file}
 use Rattle.origins.proofs.Behind.{behind-gone}
 use Rattle.reader.specs.declared.Reply.the-variants.{Fine}
 use Rattle.reader.specs.Replies.{replyNumber, replyPlace, formIn, linesReply, checkReply, wentsIn, turnedReply}
+use Rattle.reader.specs.Chains.{firstsFrom, nextsFrom}
 use Rattle.reader.proofs.Laws.{said-wents, fine-says}
 
 -- What was written is read: as many records, and the same
@@ -58,3 +60,9 @@ pub form-shown : (f : Form) (w : Went) (ws : List Went) → formIn (fileOf (form
 unfolding fileOf
 form-shown Ol w ws = refl
 form-shown Om w ws = refl
+
+-- Chains of four lines: the first stands as tidy line 0, the second is inside tidy line 1, the third is gone, the fourth changed to tidy line 1. Of three tidy lines
+-- the last has none, and 4 says so
+pub chains-example : let ws = Equal 0 ∷ Inside 1 ∷ Away ∷ Changed 1 ∷ [] in (firstsFrom 4 0 ws 0 3 ≡ 0 ∷ 1 ∷ 4 ∷ []) × (nextsFrom 4 3 0 ws ≡ 4 ∷ 3 ∷ 4 ∷ 4 ∷ [])
+unfolding firstsFrom nextsFrom behindFrom
+chains-example = (refl, refl)

@@ -3,14 +3,15 @@ ghost use mathlib.Core.Path.{_≡_};
 ghost use mathlib.Core.Bool.{cond};
 ghost use Prim.Native.Nat.{_≤_, _<_, _+_, _*_};
 ghost use lib.Dec.{eqb};
-ghost use lib.ListN.{length, getD, take, drop};
+ghost use lib.ListN.{length, getD, set, take, drop, replicate};
 ghost use Rattle.lines.specs.Lf.{word};
 ghost use Rattle.lines.specs.Inner.Out.{Wrote};
 ghost use Rattle.origins.specs.declared.Went.the-variants.{Away};
 ghost use Rattle.origins.specs.Form.{formShape, sizeOf, fileOf};
 ghost use Rattle.origins.specs.Read.{lineIn, fateIn, outIn, faultIn, wentBy, wentIn, says, readFile};
 ghost use Rattle.origins.specs.Answers.{isIn, behind, roomedLines, linesFor, fits, unfit, turnBy, turn};
-ghost use Rattle.reader.specs.Replies.{replyNumber, replyPlace, replyCount, formIn, refusal, checkReply, linesReply, linesAfter, turnedReply, turnedAfter, wentsIn};
+ghost use Rattle.reader.specs.Replies.{replyNumber, replyPlace, replyCount, formIn, refusal, checkReply, atFront, linesReply, linesAfter, turnedReply, turnedAfter, wentsIn};
+ghost use Rattle.reader.specs.Chains.{firstsFrom, nextIn, firstIn, nextsFrom, roomedChains, chainsFor, chainsReply, firstsAfter, nextsAfter};
 ghost use Rattle.reader.specs.Inner.Walk.{oneIn};
 
 // What is answered: how much there is, or why there is nothing, with the record, or the room that is needed.
@@ -343,6 +344,99 @@ pub fn lines_of(f: origins::Form, file: &[u8], n: usize, room: &mut [usize]) -> 
 {
     match check(f, file) {
         Reply::Fine(m) => answer_lines(f, file, n, room),
+        Reply::Cut(at) => Reply::Cut(at),
+        Reply::WrongMark(at) => Reply::WrongMark(at),
+        Reply::OutOfOrder(at) => Reply::OutOfOrder(at),
+        Reply::UnknownFate(at) => Reply::UnknownFate(at),
+        Reply::Disagree(at) => Reply::Disagree(at),
+        Reply::Unfit(at) => Reply::NoRoom(at),
+        Reply::Short(at) => Reply::Short(at),
+        Reply::NoRoom(at) => Reply::NoRoom(at),
+    }
+}
+
+// Puts one number everywhere into a table.
+fn fill(table: &mut [usize], x: usize)
+    ensures { λ _. ⌜ now (table .exit) ≡ replicate (length (now (table .entry))) x ⌝ }
+{
+    let mut i = 0;
+    while i < table.len() {
+        table[i] = x;
+        i += 1;
+    }
+}
+
+// Puts line `i` in front of the chain of output line `n`, and answers which line was there; `end` where there is no such chain.
+fn link(first: &mut [usize], n: usize, i: usize, end: usize) -> usize
+    ensures answer { λ r. ⌜ r ≡ getD (now (first .entry)) n end ⌝ }
+    ensures memory { λ _. ⌜ now (first .exit) ≡ set (now (first .entry)) n i ⌝ }
+{
+    if n < first.len() {
+        let x = first[n];
+        first[n] = i;
+        return x;
+    }
+    end
+}
+
+// The same of a line of which `w` is said. One that is gone is in no chain.
+fn link_line(first: &mut [usize], w: origins::Went, i: usize, end: usize) -> usize
+    ensures answer { λ r. ⌜ r ≡ nextIn end (now (first .entry)) w ⌝ }
+    ensures memory { λ _. ⌜ now (first .exit) ≡ firstIn i (now (first .entry)) w ⌝ }
+{
+    match w {
+        origins::Went::Equal(n) => link(first, n, i, end),
+        origins::Went::Changed(n) => link(first, n, i, end),
+        origins::Went::Inside(n) => link(first, n, i, end),
+        origins::Went::Away => end,
+    }
+}
+
+// Links the `m` lines of a file, from the last to the first.
+fn link_all(f: origins::Form, file: &[u8], m: usize, first: &mut [usize], next: &mut [usize])
+    requires { ⌜ (m ≡ length (wentsIn (formShape f) (now file))) × (m ≤ length (now next)) ⌝ }
+    ensures firsts { λ _. ⌜ now (first .exit) ≡ firstsFrom m 0 (wentsIn (formShape f) (now (file .entry))) 0 (length (now (first .entry))) ⌝ }
+    ensures nexts { λ _. ⌜ now (next .exit) ≡ atFront (nextsFrom m (length (now (first .entry))) 0 (wentsIn (formShape f) (now (file .entry)))) (now (next .entry)) ⌝ }
+{
+    fill(first, m);
+    let mut i = m;
+    while 0 < i {
+        i -= 1;
+        let w = record_at(f, file, i);
+        let x = link_line(first, w, i, m);
+        next[i] = x;
+    }
+}
+
+// The chains of the `m` lines of a file that is right, where there is room.
+fn answer_chains(
+    f: origins::Form,
+    file: &[u8],
+    m: usize,
+    first: &mut [usize],
+    next: &mut [usize],
+) -> Reply
+    requires { ⌜ m ≡ length (wentsIn (formShape f) (now file)) ⌝ }
+    ensures answer { λ r. ⌜ r ≡ chainsReply (roomedChains (length (now (first .entry))) (wentsIn (formShape f) (now (file .entry))) (length (now (next .entry)))) ⌝ }
+    ensures memory { λ _. ⌜ (now (first .exit) ≡ firstsAfter (roomedChains (length (now (first .entry))) (wentsIn (formShape f) (now (file .entry))) (length (now (next .entry)))) (now (first .entry)))
+        × (now (next .exit) ≡ nextsAfter (roomedChains (length (now (first .entry))) (wentsIn (formShape f) (now (file .entry))) (length (now (next .entry)))) (now (next .entry))) ⌝ }
+{
+    if next.len() < m {
+        return Reply::NoRoom(m);
+    }
+    link_all(f, file, m, first, next);
+    Reply::Fine(m)
+}
+
+// Writes the lines that are in each output line of a file, as chains, in one walk, and answers how many lines there are: into `first` for each output line, as
+// many as it is long, the first of its lines, and into `next` for each line the next one of the same output line. The number of all lines stands for none.
+pub fn lines_of_all(f: origins::Form, file: &[u8], first: &mut [usize], next: &mut [usize]) -> Reply
+    ensures answer { λ r. ⌜ r ≡ chainsReply (chainsFor (formShape f) (now (file .entry)) (length (now (first .entry))) (length (now (next .entry)))) ⌝ }
+    ensures memory { λ _. ⌜ (now (first .exit) ≡ firstsAfter (chainsFor (formShape f) (now (file .entry)) (length (now (first .entry))) (length (now (next .entry)))) (now (first .entry)))
+        × (now (next .exit) ≡ nextsAfter (chainsFor (formShape f) (now (file .entry)) (length (now (first .entry))) (length (now (next .entry)))) (now (next .entry))) ⌝ }
+{
+    match check(f, file) {
+        Reply::Fine(m) => answer_chains(f, file, m, first, next),
         Reply::Cut(at) => Reply::Cut(at),
         Reply::WrongMark(at) => Reply::WrongMark(at),
         Reply::OutOfOrder(at) => Reply::OutOfOrder(at),
