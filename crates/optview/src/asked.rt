@@ -6,7 +6,7 @@ pub struct Task {
     pub mode: usize,
 }
 
-// What is asked, and the place of the first argument that is no word of the program.
+// What is asked, and the place of the first argument that is no option.
 pub struct Asked {
     pub task: Task,
     pub rest: usize,
@@ -17,26 +17,63 @@ const PLAIN: usize = 0;
 
 const STRICT: usize = 1;
 
-// The place after an argument, where that is a word.
-fn past(at: usize, word: &[u8]) -> usize {
-    let mut room = io::buffer();
-    let n = os::arg(at, &mut room);
-    if lines::same(&room[..n], word) & (at < 4) {
-        return at + 1;
-    }
-    at
+// What an argument is: an option, `--`, or a file's name.
+enum Word {
+    Text,
+    Strict,
+    End,
+    Name,
 }
 
-// Takes the words `--text`, `--strict` and `--`, in this order.
-pub fn take_words() -> Asked {
-    let a = past(1, b"--text");
-    let b = past(a, b"--strict");
-    let c = past(b, b"--");
-    Asked {
-        task: Task {
-            text: 1 < a,
-            mode: if a < b { STRICT } else { PLAIN },
-        },
-        rest: c,
+// Whether an argument is a word. One that is missing or very long is none.
+fn is_word(at: usize, word: &[u8]) -> bool {
+    let mut room = io::buffer();
+    let n = os::arg(at, &mut room);
+    lines::same(&room[..n], word)
+}
+
+// What an argument is.
+fn word_at(at: usize) -> Word {
+    if is_word(at, b"--text") {
+        return Word::Text;
     }
+    if is_word(at, b"--strict") {
+        return Word::Strict;
+    }
+    if is_word(at, b"--") {
+        return Word::End;
+    }
+    Word::Name
+}
+
+// What is asked, as a file's name or none stands from a place on.
+fn asked_for(text: bool, mode: usize, rest: usize) -> Asked {
+    Asked {
+        task: Task { text, mode },
+        rest,
+    }
+}
+
+// The place of the next argument.
+pub fn past(at: usize) -> usize {
+    if at < usize::MAX { at + 1 } else { at }
+}
+
+// Takes the options, in any order, and `--`.
+pub fn take_words() -> Asked {
+    let mut text = false;
+    let mut mode = PLAIN;
+    let mut at = 1;
+    let mut left = os::arg_count();
+    while 0 < left {
+        match word_at(at) {
+            Word::Text => text = true,
+            Word::Strict => mode = STRICT,
+            Word::End => return asked_for(text, mode, past(at)),
+            Word::Name => return asked_for(text, mode, at),
+        }
+        at = past(at);
+        left -= 1;
+    }
+    asked_for(text, mode, at)
 }

@@ -2,6 +2,7 @@
 // `--text` plain text, to standard output. On standard error it says nothing where it showed the listing, `optview: refused ..` first where that was
 // refused, and anything else where it could not read or write: a program in Rattle sets no exit status, so tools/front.sh makes one of that.
 mod asked;
+mod chain;
 mod escape;
 mod page;
 mod parts;
@@ -12,10 +13,14 @@ mod tell;
 mod why;
 
 ghost use mathlib.Core.Path.{_≡_};
+ghost use mathlib.Core.Bool.{cond};
+ghost use Prim.Native.Nat.{_*_};
+ghost use lib.Dec.{leb};
 ghost use lib.ListN.{length};
 use asked::Task;
 use libc::STDERR_FILENO;
 use libc::STDIN_FILENO;
+use origins::Form;
 
 // Room for a listing: one byte more than is taken, so that a longer one is seen.
 fn text_room() -> [u8; 16385]
@@ -45,8 +50,17 @@ fn stage_room() -> [u8; 1024]
     [0; 1024]
 }
 
+// Room for a number a line.
+fn line_room() -> [usize; 1024]
+    ensures { λ r. ⌜ 1024 ≡ length r ⌝ }
+{
+    [0; 1024]
+}
+
 // How many bytes the records of `n` lines are: there are at most 1,024 lines.
-fn size_of(n: usize) -> usize {
+fn size_of(n: usize) -> usize
+    ensures { λ r. ⌜ r ≡ cond (leb n 1024) (n * 7) 0 ⌝ }
+{
     if n <= 1024 { n * 7 } else { 0 }
 }
 
@@ -71,7 +85,28 @@ fn show(task: Task, text: &[u8], name: &[u8]) {
     }
     let result = lines::cut(&tidy, 0, limits::length_of(answer));
     let all = lines::cut(&records, 0, size_of(lines::count_lines(text)));
-    if !put_all(task.text, text, result, all, &gone, &held, name) {
+    show_linked(task.text, text, result, all, &gone, &held, name);
+}
+
+// Shows a listing with its result and its records, once the reader of records has linked the lines.
+fn show_linked(
+    bare: bool,
+    text: &[u8],
+    tidy: &[u8],
+    records: &[u8],
+    gone: &[u8],
+    held: &[u8],
+    name: &[u8],
+) {
+    let mut first = line_room();
+    let mut next = line_room();
+    let got = reader::lines_of_all(Form::Ol, records, &mut first, &mut next);
+    let number = reader::number_of(got);
+    if number != 0 {
+        tell::bad_records(number, reader::place_of(got));
+        return;
+    }
+    if !put_all(bare, text, tidy, records, gone, held, &first, &next, name) {
         tell::cannot_write();
     }
 }
@@ -84,12 +119,14 @@ fn put_all(
     records: &[u8],
     gone: &[u8],
     held: &[u8],
+    first: &[usize],
+    next: &[usize],
     name: &[u8],
 ) -> bool {
     if bare {
-        return plain::put_both(text, tidy, records, gone, held);
+        return plain::put_both(text, tidy, records, gone, held, first, next);
     }
-    page::put_page(text, tidy, records, gone, held, name)
+    page::put_page(text, tidy, records, gone, held, first, next, name)
 }
 
 // Shows what a descriptor delivers. Of a listing that did not come whole nothing is shown.
@@ -132,7 +169,7 @@ fn show_named(task: Task, at: usize) {
 
 fn main() {
     let asked = asked::take_words();
-    if asked.rest + 1 < os::arg_count() {
+    if asked::past(asked.rest) < os::arg_count() {
         io::write_all(STDERR_FILENO, b"optview: more than one file is named\n");
         return;
     }

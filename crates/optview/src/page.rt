@@ -1,5 +1,6 @@
 // A listing and what it became as a page in HTML, side by side. Which lines belong together is what the reader of records answers. Each function returns whether
 // it went out.
+use crate::chain;
 use crate::escape;
 use crate::parts;
 use crate::plain;
@@ -28,25 +29,23 @@ fn put_to(w: Went) -> bool {
     }
 }
 
-// What is said below a raw line that did not stay as it was.
+// What is said below raw line `k` where it did not stay as it was. Where it changed, the chain from `at` on has the raw lines behind what it became.
 fn put_note(
     k: usize,
     w: Went,
     line: &[u8],
     tidy: &[u8],
-    records: &[u8],
+    next: &[usize],
+    at: usize,
+    end: usize,
     gone: u8,
     held: u8,
 ) -> bool {
     match w {
         Went::Equal(n) => true,
-        Went::Changed(n) => {
-            let mut room = put::line_room();
-            let m = reader::count_of(reader::lines_of(Form::Ol, records, n, &mut room));
-            put::bytes(b"<small>")
-                & why::put_changed(line, tidy, &room, m, k)
-                & put::bytes(b"</small>")
-        }
+        Went::Changed(n) => put::bytes(b"<small>")
+            & why::put_changed(line, tidy, next, at, end, k)
+            & put::bytes(b"</small>"),
         Went::Inside(n) => put::bytes(b"<small>")
             & why::put_inside(held, n)
             & put::bytes(b"</small>"),
@@ -62,7 +61,9 @@ fn put_raw_line(
     w: Went,
     line: &[u8],
     tidy: &[u8],
-    records: &[u8],
+    next: &[usize],
+    at: usize,
+    end: usize,
     gone: u8,
     held: u8,
 ) -> bool {
@@ -77,66 +78,67 @@ fn put_raw_line(
         & put::bytes(b"</b><code>")
         & escape::put_text(line)
         & put::bytes(b"</code>")
-        & put_note(k, w, line, tidy, records, gone, held)
+        & put_note(k, w, line, tidy, next, at, end, gone, held)
         & put::bytes(b"</li>\n")
 }
 
 // Writes the raw lines.
-fn put_raw(text: &[u8], tidy: &[u8], records: &[u8], gone: &[u8], held: &[u8]) -> bool {
+fn put_raw(
+    text: &[u8],
+    tidy: &[u8],
+    records: &[u8],
+    gone: &[u8],
+    held: &[u8],
+    first: &[usize],
+    next: &[usize],
+) -> bool {
+    let end = lines::count_lines(text);
     let mut went = true;
-    let mut left = lines::count_lines(text);
     let mut i = 0;
     let mut p = 0;
     let mut k = 0;
-    while 0 < left {
+    while k < end {
         let w = reader::record_at(Form::Ol, records, k);
-        went = went
-            & put_raw_line(
-                k,
-                w,
-                put::line_at(text, i),
-                put::whole_line(tidy, p),
-                records,
-                lines::byte_at(gone, k),
-                lines::byte_at(held, k),
-            );
+        let line = put::line_at(text, i);
+        let now = put::whole_line(tidy, p);
+        let at = chain::first_of(first, w, end);
+        let g = lines::byte_at(gone, k);
+        let h = lines::byte_at(held, k);
+        went = went & put_raw_line(k, w, line, now, next, at, end, g, h);
         if plain::stands(w) {
             p = put::next_line(tidy, p);
         }
         i = put::next_line(text, i);
-        k = put::from_one(k);
+        k += 1;
+    }
+    went
+}
+
+// Writes the names of the raw lines of a chain.
+fn put_names(next: &[usize], at: usize, end: usize) -> bool {
+    let mut went = true;
+    let mut i = at;
+    let mut left = end;
+    while 0 < left {
+        if end <= i {
+            return went;
+        }
+        if i != at {
+            went = went & put::bytes(b" ");
+        }
+        went = went & put::bytes(b"r") & put::place(i);
+        i = chain::number_or(next, i, end);
         left -= 1;
     }
     went
 }
 
-// Writes the first `m` numbers as the names of raw lines.
-fn put_names(numbers: &[usize], m: usize) -> bool {
-    let mut went = true;
-    let mut i = 0;
-    while i < m {
-        if 0 < i {
-            went = went & put::bytes(b" ");
-        }
-        went = went & put::bytes(b"r") & put::place(put::number_at(numbers, i));
-        i += 1;
-    }
-    went
-}
-
-// The names of the raw lines behind tidy line `n`.
-fn put_behind(n: usize, records: &[u8]) -> bool {
-    let mut room = put::line_room();
-    let m = reader::count_of(reader::lines_of(Form::Ol, records, n, &mut room));
-    put_names(&room, m)
-}
-
-// Writes tidy line `n`.
-fn put_tidy_line(n: usize, line: &[u8], records: &[u8]) -> bool {
+// Writes tidy line `n`, where the chain from `at` on has the raw lines behind it.
+fn put_tidy_line(n: usize, line: &[u8], next: &[usize], at: usize, end: usize) -> bool {
     put::bytes(b"<li tabindex=\"0\" id=\"t")
         & put::place(n)
         & put::bytes(b"\" data-to=\"")
-        & put_behind(n, records)
+        & put_names(next, at, end)
         & put::bytes(b"\"><b>")
         & put::place(n)
         & put::bytes(b"</b><code>")
@@ -144,17 +146,17 @@ fn put_tidy_line(n: usize, line: &[u8], records: &[u8]) -> bool {
         & put::bytes(b"</code></li>\n")
 }
 
-// Writes the tidy lines.
-fn put_tidy(tidy: &[u8], records: &[u8]) -> bool {
+// Writes the tidy lines, which came of `end` raw lines.
+fn put_tidy(tidy: &[u8], first: &[usize], next: &[usize], end: usize) -> bool {
+    let count = lines::count_lines(tidy);
     let mut went = true;
-    let mut left = lines::count_lines(tidy);
     let mut i = 0;
     let mut n = 0;
-    while 0 < left {
-        went = went & put_tidy_line(n, put::whole_line(tidy, i), records);
+    while n < count {
+        let at = chain::number_or(first, n, end);
+        went = went & put_tidy_line(n, put::whole_line(tidy, i), next, at, end);
         i = put::next_line(tidy, i);
-        n = put::from_one(n);
-        left -= 1;
+        n += 1;
     }
     went
 }
@@ -166,13 +168,15 @@ pub fn put_page(
     records: &[u8],
     gone: &[u8],
     held: &[u8],
+    first: &[usize],
+    next: &[usize],
     name: &[u8],
 ) -> bool {
     parts::put_head()
         & escape::put_text(name)
         & parts::put_legend()
-        & put_raw(text, tidy, records, gone, held)
+        & put_raw(text, tidy, records, gone, held, first, next)
         & parts::put_middle()
-        & put_tidy(tidy, records)
+        & put_tidy(tidy, first, next, lines::count_lines(text))
         & parts::put_tail()
 }

@@ -1,7 +1,5 @@
 // Writing to standard output. Each function returns whether it went out.
-ghost use mathlib.Core.Path.{_≡_};
 ghost use Prim.Native.Nat.{_<_, _≤_};
-ghost use lib.ListN.{length};
 use libc::STDOUT_FILENO;
 
 pub fn bytes(s: &[u8]) -> bool {
@@ -32,25 +30,13 @@ pub fn past(i: usize, n: usize, end: usize) -> usize
     requires { ⌜ i < end ⌝ }
     ensures { λ r. ⌜ (i < r) × (r ≤ end) ⌝ }
 {
-    if (n == 0) | (end - i < n) {
+    if n == 0 {
+        return end;
+    }
+    if end - i < n {
         return end;
     }
     i + n
-}
-
-// The number at a place, or 0 past the end.
-pub fn number_at(numbers: &[usize], i: usize) -> usize {
-    if i < numbers.len() {
-        return numbers[i];
-    }
-    0
-}
-
-// Room for the numbers of lines.
-pub fn line_room() -> [usize; 1024]
-    ensures { λ r. ⌜ 1024 ≡ length r ⌝ }
-{
-    [0; 1024]
 }
 
 // The line at a place, without a CR before its LF.

@@ -22,6 +22,15 @@ pub fn cannot_write() {
     os::fail(b"optview: cannot write standard output");
 }
 
+// Says that the records of this program's own making are not right.
+pub fn bad_records(number: u8, place: usize) {
+    say(b"optview: the records are refused, which is a fault of this program: ");
+    say_number(number as usize);
+    say(b" ");
+    say_number(place);
+    say(b"\n");
+}
+
 // Tells a person of a refusal.
 fn explain(number: u8, place: usize, name: &[u8]) {
     say(b"optview: refused ");

@@ -1,4 +1,5 @@
 // Why a line went, or is another, in a person's words. Each function returns whether they went out.
+use crate::chain;
 use crate::put;
 
 // Of what pass 2 lets go: declarations, and stores.
@@ -68,31 +69,36 @@ pub fn put_inside(held: u8, n: usize) -> bool {
         & put::bytes(b": it is an argument, or what is called, of a call below")
 }
 
-// Writes the numbers of lines that are not `k`, from 1.
-fn put_others(numbers: &[usize], n: usize, k: usize) -> bool {
+// Writes the numbers of the lines of a chain that are not `k`, from 1.
+fn put_others(next: &[usize], at: usize, end: usize, k: usize) -> bool {
     let mut went = true;
-    let mut i = 0;
-    while i < n {
-        let x = put::number_at(numbers, i);
-        if x != k {
-            went = went & put::bytes(b" ") & put::place(x);
+    let mut i = at;
+    let mut left = end;
+    while 0 < left {
+        if end <= i {
+            return went;
         }
-        i += 1;
+        if i != k {
+            went = went & put::bytes(b" ") & put::place(i);
+        }
+        i = chain::number_or(next, i, end);
+        left -= 1;
     }
     went
 }
 
-// What a changed line has of others, behind a sign: `numbers` has the `n` raw lines that are behind what it became, itself among them.
-fn put_taken(sign: &[u8], numbers: &[usize], n: usize, k: usize) -> bool {
+// What a changed line has of others, behind a sign: the chain from `at` on has the raw lines that are behind what it became, itself among them.
+fn put_taken(sign: &[u8], next: &[usize], at: usize, end: usize, k: usize) -> bool {
+    let n = chain::count(next, at, end);
     if n <= 1 {
         return true;
     }
     if n == 2 {
         return put::bytes(sign)
             & put::bytes(b"it has the value of raw line")
-            & put_others(numbers, n, k);
+            & put_others(next, at, end, k);
     }
-    put::bytes(sign) & put::bytes(b"it has the values of raw lines") & put_others(numbers, n, k)
+    put::bytes(sign) & put::bytes(b"it has the values of raw lines") & put_others(next, at, end, k)
 }
 
 // Whether a line stores, where what it became declares.
@@ -100,8 +106,15 @@ fn declares_now(line: &[u8], tidy: &[u8]) -> bool {
     lines::starts_with(text::trim(tidy), b"let ") & !lines::starts_with(text::trim(line), b"let ")
 }
 
-// Why line `k` is another, where `tidy` is what it became.
-pub fn put_changed(line: &[u8], tidy: &[u8], numbers: &[usize], n: usize, k: usize) -> bool {
+// Why line `k` is another, where `tidy` is what it became, and the chain from `at` on has the raw lines behind that.
+pub fn put_changed(
+    line: &[u8],
+    tidy: &[u8],
+    next: &[usize],
+    at: usize,
+    end: usize,
+    k: usize,
+) -> bool {
     if parse::declares(line) {
         return put::bytes(
             b"changed: registers that its region does not need, or that are declared at their stores, are left out",
@@ -109,7 +122,7 @@ pub fn put_changed(line: &[u8], tidy: &[u8], numbers: &[usize], n: usize, k: usi
     }
     if declares_now(line, tidy) {
         return put::bytes(b"changed: it declares the register that it stores")
-            & put_taken(b"; ", numbers, n, k);
+            & put_taken(b"; ", next, at, end, k);
     }
-    put::bytes(b"changed") & put_taken(b": ", numbers, n, k)
+    put::bytes(b"changed") & put_taken(b": ", next, at, end, k)
 }

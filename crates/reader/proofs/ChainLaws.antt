@@ -234,12 +234,16 @@ next-at end i w ws n m h b = go w b
     go (Inside p) e = at p e
     go Away e = no e
 
-along-none : (end k : ℕ) (ns : List ℕ) → along end ns k end ≡ []
+pub along-none : (end k i : ℕ) (ns : List ℕ) → end ≤ i → along end ns k i ≡ []
 unfolding along
-along-none end zero ns = refl
-along-none end (suc k) ns = rw (le-ltb end end (omega arith))
+along-none end zero i ns h = refl
+along-none end (suc k) i ns h = rw (le-ltb i end h)
 
-along-some : (end k i : ℕ) (ns : List ℕ) → i < end → along end ns (suc k) i ≡ i ∷ along end ns k (getD ns i end)
+pub along-zero : (end i : ℕ) (ns : List ℕ) → along end ns 0 i ≡ []
+unfolding along
+along-zero end i ns = refl
+
+pub along-some : (end k i : ℕ) (ns : List ℕ) → i < end → along end ns (suc k) i ≡ i ∷ along end ns k (getD ns i end)
 unfolding along
 along-some end k i ns h = rw (lt-ltb i end h)
 
@@ -249,7 +253,7 @@ none-behind n i = refl
 
 along-from : (end m n : ℕ) → n < m → (ns : List ℕ) (ws : List Went) (i k : ℕ) → i + length ws ≡ end → drop i ns ≡ nextsFrom end m i ws → i + length ws ≤ length ns → length ws ≤ k →
     along end ns k (firstOr end (behindFrom n i ws)) ≡ behindFrom n i ws
-along-from end m n h ns [] i k e d l b = ap (λ (r : List ℕ). along end ns k (firstOr end r)) (none-behind n i) ∙ along-none end k ns ∙ sym (none-behind n i)
+along-from end m n h ns [] i k e d l b = ap (λ (r : List ℕ). along end ns k (firstOr end r)) (none-behind n i) ∙ along-none end k end ns (omega arith) ∙ sym (none-behind n i)
 along-from end m n h ns (w ∷ ws) i zero e d l b = absurd (omega arith)
 along-from end m n h ns (w ∷ ws) i (suc k) e d l b =
     go (isIn n w) refl
