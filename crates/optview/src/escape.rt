@@ -11,6 +11,11 @@ fn unseen_wide(a: u8, b: u8, c: u8) -> bool {
         | (((a == 0xE2) & (b == 0x81)) & ((0xA0 <= c) & (c <= 0xAF)))
 }
 
+// The same of two bytes and a character of two: a control, a soft hyphen, a mark of writing.
+fn unseen_narrow(a: u8, b: u8) -> bool {
+    ((a == 0xC2) & (((0x80 <= b) & (b <= 0x9F)) | (b == 0xAD))) | ((a == 0xD8) & (b == 0x9C))
+}
+
 // How many bytes the first character has, where it cannot be seen or turns the writing round; 0 for any other.
 fn unseen_len(s: &[u8]) -> usize {
     let a = lines::byte_at(s, 0);
@@ -18,7 +23,7 @@ fn unseen_len(s: &[u8]) -> usize {
     if ((a < 32) & (a != 9)) | (a == 127) {
         return 1;
     }
-    if (a == 0xC2) & ((0x80 <= b) & (b <= 0x9F)) {
+    if unseen_narrow(a, b) {
         return 2;
     }
     if unseen_wide(a, b, lines::byte_at(s, 2)) {

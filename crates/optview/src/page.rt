@@ -133,6 +133,16 @@ fn put_names(next: &[usize], at: usize, end: usize) -> bool {
     went
 }
 
+// Says of which raw lines a tidy line is, where that is not one alone.
+fn put_sources(next: &[usize], at: usize, end: usize) -> bool {
+    if chain::count(next, at, end) == 1 {
+        return true;
+    }
+    put::bytes(b"<small>from raw lines")
+        & plain::put_numbers(next, at, end)
+        & put::bytes(b"</small>")
+}
+
 // Writes tidy line `n`, where the chain from `at` on has the raw lines behind it.
 fn put_tidy_line(n: usize, line: &[u8], next: &[usize], at: usize, end: usize) -> bool {
     put::bytes(b"<li tabindex=\"0\" id=\"t")
@@ -143,17 +153,21 @@ fn put_tidy_line(n: usize, line: &[u8], next: &[usize], at: usize, end: usize) -
         & put::place(n)
         & put::bytes(b"</b><code>")
         & escape::put_text(line)
-        & put::bytes(b"</code></li>\n")
+        & put::bytes(b"</code>")
+        & put_sources(next, at, end)
+        & put::bytes(b"</li>\n")
 }
 
-// Writes the tidy lines, which came of `end` raw lines.
+// Writes the tidy lines, which came of `end` raw lines. There is a raw line behind each of them, and the text may lack the last, an empty one.
 fn put_tidy(tidy: &[u8], first: &[usize], next: &[usize], end: usize) -> bool {
-    let count = lines::count_lines(tidy);
     let mut went = true;
     let mut i = 0;
     let mut n = 0;
-    while n < count {
+    while n < end {
         let at = chain::number_or(first, n, end);
+        if end <= at {
+            return went;
+        }
         went = went & put_tidy_line(n, put::whole_line(tidy, i), next, at, end);
         i = put::next_line(tidy, i);
         n += 1;

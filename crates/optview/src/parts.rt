@@ -49,7 +49,7 @@ fn put_fates() -> bool {
         & put::bytes(
             b"i { display: inline-block; width: 1.4em; font-style: normal; font-weight: bold; text-align: center; }\n",
         )
-        & put::bytes(b"small { grid-column: 3; color: #333; }\n")
+        & put::bytes(b"small { grid-column: 3; color: #333; } #tidy small { grid-column: 2; }\n")
         & put::bytes(
             b"u { text-decoration: none; background: #ddd; border: 1px solid #888; border-radius: .2em; font-size: .8em; padding: 0 .2em; }\n",
         )
@@ -59,7 +59,7 @@ fn put_fates() -> bool {
         & put::bytes(
             b".f1 { border-left: .4em double var(--changed); } .f2 { border-left: .4em dotted var(--inside); } .f3 { border-left: .4em solid var(--gone); }\n",
         )
-        & put::bytes(b".f3 code { text-decoration: line-through; }\n")
+        & put::bytes(b".f3 code { text-decoration: line-through 1px var(--gone); }\n")
         & put::bytes(b"li.on { background: var(--mark); } li.pin { background: var(--pin); }\n")
         & put::bytes(b"</style>\n")
         & put::bytes(b"</head>\n")
@@ -122,8 +122,9 @@ fn put_marks() -> bool {
             b"  function mark(line, name) { clear(name); if (line) group(line).forEach(function (l) { l.classList.add(name); }); }\n",
         )
         & put::bytes(b"  function show(line) {\n")
+        & put::bytes(b"    var to = linked(line);\n")
         & put::bytes(
-            b"    linked(line).slice(0, 1).forEach(function (l) { l.scrollIntoView({ block: \"nearest\" }); });\n",
+            b"    to.slice(-1).concat(to.slice(0, 1)).forEach(function (l) { l.scrollIntoView({ block: \"nearest\" }); });\n",
         )
         & put::bytes(b"  }\n")
         & put::bytes(b"  function pin(line) {\n")

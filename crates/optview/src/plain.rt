@@ -107,7 +107,7 @@ fn put_raw(
 }
 
 // Writes the numbers of the lines of a chain from 1, with a blank before each.
-fn put_numbers(next: &[usize], at: usize, end: usize) -> bool {
+pub fn put_numbers(next: &[usize], at: usize, end: usize) -> bool {
     let mut went = true;
     let mut i = at;
     let mut left = end;
@@ -136,14 +136,16 @@ fn put_tidy_line(n: usize, line: &[u8], next: &[usize], at: usize, end: usize) -
         & put::bytes(b"\n")
 }
 
-// Writes the tidy lines, which came of `end` raw lines, each with the raw lines behind it.
+// Writes the tidy lines, which came of `end` raw lines, each with the raw lines behind it. There is one behind each of them, and the text may lack the last, an empty one.
 fn put_tidy(tidy: &[u8], first: &[usize], next: &[usize], end: usize) -> bool {
-    let count = lines::count_lines(tidy);
     let mut went = true;
     let mut i = 0;
     let mut n = 0;
-    while n < count {
+    while n < end {
         let at = chain::number_or(first, n, end);
+        if end <= at {
+            return went;
+        }
         went = went & put_tidy_line(n, put::whole_line(tidy, i), next, at, end);
         i = put::next_line(tidy, i);
         n += 1;

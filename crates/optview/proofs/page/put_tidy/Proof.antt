@@ -5,19 +5,19 @@ use Rattle.optview.proofs.page.put_tidy.Statement.{statement}
 use Rattle.optview.proofs.page.put_tidy.Tie as tie
 
 abbrev Inv-loop : tie.InvT-loop
-Inv-loop tidy first next end count went₀ i₀ n₀ went i n = Unit {0}
+Inv-loop tidy first next end went₀ i₀ n₀ went i n = Unit {0}
 
 abbrev μ-loop : tie.MeasureT-loop
-μ-loop tidy first next end count went₀ i₀ n₀ went i n = count - n
-
-count-lines-requires : tie.Need-count-lines-requires Inv-loop μ-loop
-count-lines-requires c κs = search needs
+μ-loop tidy first next end went₀ i₀ n₀ went i n = end - n
 
 loop-holds : tie.Need-loop-holds Inv-loop μ-loop
 loop-holds c = search needs
 
 number-or-requires : tie.Need-number-or-requires Inv-loop μ-loop
 number-or-requires c κs = search needs
+
+returns : tie.Need-returns Inv-loop μ-loop
+returns c = search needs
 
 whole-line-requires : tie.Need-whole-line-requires Inv-loop μ-loop
 whole-line-requires c κs = search needs
@@ -37,8 +37,8 @@ loop-less c = search needs
 loop-again : tie.Need-loop-again Inv-loop μ-loop
 loop-again c = search needs
 
-returns : tie.Need-returns Inv-loop μ-loop
-returns c = search needs
+returns-2 : tie.Need-returns-2 Inv-loop μ-loop
+returns-2 c = search needs
 
 pub put-tidy-spec : {M : Type 1} → statement M
 put-tidy-spec =
@@ -46,13 +46,13 @@ put-tidy-spec =
     (tie.spec
     Inv-loop
     μ-loop
-    count-lines-requires
     loop-holds
     number-or-requires
+    returns
     whole-line-requires
     put-tidy-line-requires
     next-line-requires
     add-n
     loop-less
     loop-again
-    returns)
+    returns-2)
