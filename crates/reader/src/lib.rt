@@ -437,14 +437,14 @@ pub fn lines_of_all(f: origins::Form, file: &[u8], first: &mut [usize], next: &m
 {
     match check(f, file) {
         Reply::Fine(m) => answer_chains(f, file, m, first, next),
-        Reply::Cut(at) => Reply::Cut(at),
-        Reply::WrongMark(at) => Reply::WrongMark(at),
-        Reply::OutOfOrder(at) => Reply::OutOfOrder(at),
-        Reply::UnknownFate(at) => Reply::UnknownFate(at),
-        Reply::Disagree(at) => Reply::Disagree(at),
-        Reply::Unfit(at) => Reply::NoRoom(at),
-        Reply::Short(at) => Reply::Short(at),
-        Reply::NoRoom(at) => Reply::NoRoom(at),
+        Reply::Cut(bad) => Reply::Cut(bad),
+        Reply::WrongMark(bad) => Reply::WrongMark(bad),
+        Reply::OutOfOrder(bad) => Reply::OutOfOrder(bad),
+        Reply::UnknownFate(bad) => Reply::UnknownFate(bad),
+        Reply::Disagree(bad) => Reply::Disagree(bad),
+        Reply::Unfit(bad) => Reply::NoRoom(bad),
+        Reply::Short(bad) => Reply::Short(bad),
+        Reply::NoRoom(bad) => Reply::NoRoom(bad),
     }
 }
 
