@@ -24,5 +24,9 @@ record-at-fixed = fixed reader.record_at.Reads.Learnt (λ κs a x y l m. l ∙ s
 pub lines-of-fixed : Determined reader.lines_of.ended (λ κs z. z) reader.lines_of.Reads.ensures
 lines-of-fixed = fixed-by reader.lines_of.Reads.Learnt (λ w κs a x. more w (one w)) (λ κs a x y l m. (l .1 ∙ sym (m .1), l .0 ∙ sym (m .0)))
 
+pub lines-of-all-fixed : Determined reader.lines_of_all.ended (λ κs z. z) reader.lines_of_all.Reads.ensures
+lines-of-all-fixed = fixed-by reader.lines_of_all.Reads.Learnt (λ w κs a x. more w (one w)) (λ κs a x y l m.
+    (l .1 .0 ∙ sym (m .1 .0), (l .1 .1 ∙ sym (m .1 .1), l .0 ∙ sym (m .0))))
+
 pub turn-fixed : Determined reader.turn.ended (λ κs z. z) reader.turn.Reads.ensures
 turn-fixed = fixed-by reader.turn.Reads.Learnt (λ w κs a x. more w (one w)) (λ κs a x y l m. (l .1 ∙ sym (m .1), l .0 ∙ sym (m .0)))
