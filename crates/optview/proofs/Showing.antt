@@ -6,7 +6,7 @@ use mathlib.Core.List.{List}
 use borrow.Author.Tests.{eq-eqb, ne-eqb}
 use lib.Dec.{eqb}
 use lib.ListN.{getD}
-use Rattle.optview.specs.Shown.{unseenOne, unseenNarrow, unseenWide, unseenLen, isSign, codeOf}
+use Rattle.optview.specs.Inner.Shown.{unseenOne, unseenNarrow, unseenWide, unseenLen, isSign, codeOf}
 
 module _ (s : List ℕ) (a : ℕ) (p : a ≡ getD s 0 0) where
   one-as : (t : Bool) → unseenOne a ≡ t → unseenOne (getD s 0 0) ≡ t

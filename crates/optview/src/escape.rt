@@ -4,7 +4,7 @@ ghost use mathlib.Core.Path.{_≡_};
 ghost use mathlib.Core.Bool.{cond, not, _&&_};
 ghost use lib.Dec.{eqb};
 ghost use lib.ListN.{getD};
-ghost use Rattle.optview.specs.Shown.{unseenOne, unseenNarrow, unseenWide, unseenLen, isSign, codeOf};
+ghost use Rattle.optview.specs.Inner.Shown.{unseenOne, unseenNarrow, unseenWide, unseenLen, isSign, codeOf};
 use crate::put;
 
 // Whether a byte is a control, but a TAB.
