@@ -254,7 +254,7 @@ extern "C" {
 #define OPTLINES_STRICT 1
 
 /* Bytes of stack that are enough for a call. */
-#define OPTLINES_STACK 131072
+#define OPTLINES_STACK 139264
 
 /* The numbers that are returned. */
 enum {

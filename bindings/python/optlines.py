@@ -29,7 +29,7 @@ BRACKETS = 64  # the most bytes '[' of a line
 RECORD = 7  # the bytes of a record
 RECORDS = RECORD * LINES  # the bytes of a record buffer that is long enough for every text
 NO_LINE = 65535  # the line of the result that a record of a gone line has
-STACK = 131072  # bytes of stack that are enough for a call, as far as it was measured
+STACK = 139264  # bytes of stack that are enough for a call, as far as it was measured
 
 # The modes: how passes 1, 2 and 3 judge a value.
 (PLAIN, STRICT) = range(2)

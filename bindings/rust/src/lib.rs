@@ -36,7 +36,7 @@ pub const RECORD: usize = 7;
 /// The bytes of a record buffer that is long enough for every text.
 pub const RECORDS: usize = RECORD * LINES;
 /// Bytes of stack that are enough for a call, as far as it was measured.
-pub const STACK: usize = 131_072;
+pub const STACK: usize = 139_264;
 
 /// How passes 1, 2 and 3 judge a value; the others do the same in each mode.
 #[derive(Clone, Copy, Debug, Default, PartialEq, Eq)]
