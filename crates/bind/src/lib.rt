@@ -734,7 +734,7 @@ pub fn bind_declarators(
     ensures index { λ _. ⌜ (now (seen .exit) ≡ replicate (length (now (seen .entry))) 0) × (now (first .exit) ≡ replicate (length (now (first .entry))) 0) ⌝ }
     ensures ends { λ _. ⌜ Filled (now (ends .entry)) (endMarks 0 (linesOf (now (text .entry)))) (now (ends .exit)) (length (linesOf (now (text .entry)))) ⌝ }
 {
-    let n = place::place_lines(text, blocks, starts, up, ends);
+    let n = place::place_lines(text, false, blocks, starts, up, ends);
     clear(marks, n);
     walk(text, own, ends, n, blocks, starts, seen, first, marks, out)
 }

@@ -593,7 +593,7 @@ pub fn rebuild_calls(
 {
     let m = text.len();
     let h = whole_size(text);
-    let n = place::place_lines(text, blocks, starts, up, ends);
+    let n = place::place_lines(text, false, blocks, starts, up, ends);
     let f = later::note_lines(text, ends, n, own, near, stores, notes);
     let r = rebuild_with(
         text,

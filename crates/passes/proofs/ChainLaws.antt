@@ -12,7 +12,7 @@ use Rattle.lines.proofs.LfLaws.{lines-unlines}
 use Rattle.lines.proofs.StepLaws.{split-room}
 use Rattle.lines.proofs.OutLaws.{wrote-length, wrote-part}
 use Rattle.reading.specs.Reading.{Reading, readingOf}
-use Rattle.reading.proofs.ByLine.{mode-by-line}
+use Rattle.reading.proofs.Lined.{mode-lined}
 use Rattle.steps.specs.Step.{stepOf}
 use Rattle.steps.specs.Inner.Bounds.{Bounded, Sized, Tabled}
 use Rattle.steps.proofs.Tame.{tame-step, room-fits}
@@ -108,7 +108,7 @@ module _ {L : Limits} {mode k to : ℕ} {t a : List ℕ} {n j : ℕ} (h : ChainI
 
   -- what a pass wrote to b has room in a
   pub chain-fits : {b b′ : List ℕ} {r : ℕ} → byteSize L ≤ length a → Wrote b 0 (unlines (stepOf (readingOf mode) j (linesOf (take n a)))) b′ r → length (take r b′) ≤ length a
-  chain-fits {b′ = b′} {r = r} l w = omega (arith, length-take r b′, w .place, room-fits (tame-step (mode-by-line mode) j) chain-room)
+  chain-fits {b′ = b′} {r = r} l w = omega (arith, length-take r b′, w .place, room-fits (tame-step (mode-lined mode) j) chain-room)
 
   -- a pass from the front of a into b, and what it wrote back to the front of a
   pub chain-on : {b a′ b′ : List ℕ} {r m : ℕ} → j < to → Wrote b 0 (unlines (stepOf (readingOf mode) j (linesOf (take n a)))) b′ r → Wrote a 0 (take r b′) a′ m → ChainInv L mode k to t a′ m (j + 1)
@@ -120,7 +120,7 @@ module _ {L : Limits} {mode k to : ℕ} {t a : List ℕ} {n j : ℕ} (h : ChainI
       record {
         taken = h .taken;
         now-lines = stepOf (readingOf mode) j ls;
-        between = between-on (tame-step (mode-by-line mode) j) (h .between);
+        between = between-on (tame-step (mode-lined mode) j) (h .between);
         front = record { fits = f .fits; is = f .is ∙ ap (λ (ms : List (List ℕ)). unlines (stepOf (readingOf mode) j ms)) g };
         so-far =
             ap (λ (i : ℕ). stepsOf (readingOf mode) i (to - (j + 1)) (stepOf (readingOf mode) j ls)) (add-one j)

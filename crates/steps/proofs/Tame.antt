@@ -32,7 +32,7 @@ use Rattle.calls.specs.LeavesOf.{leavesOf}
 use Rattle.calls.specs.Calls.{rebuildCallsActs, rebuildCalls}
 use Rattle.calls.proofs.Room.{calls-weight, calls-noLf}
 use Rattle.bind.specs.Bind.{bindDeclarators}
-use Rattle.reading.proofs.ByLine.{ByLine, plain-by-line}
+use Rattle.reading.proofs.Lined.{Lined, plain-lined}
 use Rattle.bind.proofs.Passes as bind-laws
 use Rattle.decls.specs.Decls.{pruneDecls}
 use Rattle.decls.proofs.Keeps.{keeps-noLf}
@@ -95,11 +95,11 @@ calls-count R ls = apply-length (rebuildCallsActs (leavesOf R) ls) ls
 pub tame-calls : (R : Reading) → Tame (rebuildCalls (leavesOf R))
 tame-calls R = record { keeps = calls-noLf R; weighs = λ H ls. calls-weight H R ls; counts = calls-count R }
 
--- where lines are cleaned one by one, as in the plain reading
-pub tame-bind : {R : Reading} → ByLine R → Tame (bindDeclarators R)
+-- where as many lines are cleaned as there are
+pub tame-bind : {R : Reading} {shut : List (List ℕ) → Bool} → Lined R shut → Tame (bindDeclarators R)
 tame-bind {R} c = record { keeps = bind-laws.keeps-noLf c; weighs = bind-laws.bind-weight c; counts = bind-laws.bind-lines R }
 
-pub tame-step : {R : Reading} → ByLine R → (k : ℕ) → Tame (stepOf R k)
+pub tame-step : {R : Reading} {shut : List (List ℕ) → Bool} → Lined R shut → (k : ℕ) → Tame (stepOf R k)
 unfolding stepOf
 tame-step {R} c k =
     tame-if (eqb k 0) tame-removal
@@ -195,5 +195,5 @@ pub bind-room : {L : Limits} {s : List ℕ} {blocks starts up marks out ends : �
     × ((length (linesOf s) ≤ marks) × ((length (unlines (bindDeclarators plain (linesOf s))) ≤ out) × (length (linesOf s) ≤ ends)))
 bind-room {s = s} r b u l = (
   (omega (arith, r .lines, l .1 .1 .0), (omega (arith, r .lines, l .0), (omega (arith, ids-parents-text s, r .braces, u .0), u .1))),
-  (omega (arith, r .lines, l .1 .0), (omega (arith, room-fits (tame-bind plain-by-line) r, b), omega (arith, r .lines, l .1 .1 .1))),
+  (omega (arith, r .lines, l .1 .0), (omega (arith, room-fits (tame-bind plain-lined) r, b), omega (arith, r .lines, l .1 .1 .1))),
 )
