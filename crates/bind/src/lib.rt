@@ -710,6 +710,7 @@ fn walk(
 // left as `place::place_lines` fills them, and `marks` says for each line whether it was such a store. `seen` and `first` are room for the
 // index of a region, where `own` says which places are those of high registers; they are left with zeros.
 pub fn bind_declarators(
+    mode: reading::Mode,
     text: &[u8],
     own: &[usize],
     ends: &mut [usize],
@@ -734,7 +735,7 @@ pub fn bind_declarators(
     ensures index { λ _. ⌜ (now (seen .exit) ≡ replicate (length (now (seen .entry))) 0) × (now (first .exit) ≡ replicate (length (now (first .entry))) 0) ⌝ }
     ensures ends { λ _. ⌜ Filled (now (ends .entry)) (endMarks 0 (linesOf (now (text .entry)))) (now (ends .exit)) (length (linesOf (now (text .entry)))) ⌝ }
 {
-    let n = place::place_lines(text, false, blocks, starts, up, ends);
+    let n = place::place_lines(text, reading::is_joined(mode), blocks, starts, up, ends);
     clear(marks, n);
     walk(text, own, ends, n, blocks, starts, seen, first, marks, out)
 }

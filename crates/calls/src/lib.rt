@@ -560,6 +560,7 @@ fn whole_size(text: &[u8]) -> usize
 // the line stands that took it in, or 0, `ends`, `blocks`, `starts` and `up` are left as `place::place_lines` fills them, and the front of the
 // three buffers before `out` is wiped.
 pub fn rebuild_calls(
+    mode: reading::Mode,
     text: &[u8],
     own: &[usize],
     ends: &mut [usize],
@@ -593,7 +594,7 @@ pub fn rebuild_calls(
 {
     let m = text.len();
     let h = whole_size(text);
-    let n = place::place_lines(text, false, blocks, starts, up, ends);
+    let n = place::place_lines(text, reading::is_joined(mode), blocks, starts, up, ends);
     let f = later::note_lines(text, ends, n, own, near, stores, notes);
     let r = rebuild_with(
         text,

@@ -1,6 +1,5 @@
 -- Each public function of crate lexical: its contract fixes its outcome. Assumes nothing.
 use mathlib.Core.Path.{sym, _∙_}
-use denote.Ref.{now}
 use Rattle.lines.proofs.OutLaws.{wrote-once}
 use Rattle.lexical.proofs as lexical
 use Rattle.determined.proofs.Outcomes.{Determined, fixed}
@@ -44,8 +43,5 @@ low-last-fixed = fixed lexical.low_last.Reads.Learnt (λ κs a x y l m. l ∙ sy
 pub front-tail-fixed : Determined lexical.front_tail.ended (λ κs z. z) lexical.front_tail.Reads.ensures
 front-tail-fixed = fixed lexical.front_tail.Reads.Learnt (λ κs a x y l m. l ∙ sym m)
 
-pub rest-of-fixed : Determined lexical.rest_of.ended (λ κs z. now z) lexical.rest_of.Reads.ensures
-rest-of-fixed = fixed lexical.rest_of.Reads.Learnt (λ κs a x y l m. l ∙ sym m)
-
-pub open-in-fixed : Determined lexical.open_in.ended (λ κs z. z) lexical.open_in.Reads.ensures
-open-in-fixed = fixed lexical.open_in.Reads.Learnt (λ κs a x y l m. l ∙ sym m)
+pub rest-in-fixed : Determined lexical.rest_in.ended (λ κs z. z) lexical.rest_in.Reads.ensures
+rest-in-fixed = fixed lexical.rest_in.Reads.Learnt (λ κs a x y l m. l ∙ sym m)

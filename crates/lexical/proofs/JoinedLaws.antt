@@ -19,8 +19,8 @@ use Rattle.lexical.specs.declared.Open.the-variants.{Nothing, Comment, T
 use Rattle.lexical.specs.Lex.{quoteShut, lastOf, tokenOf, leaves}
 use Rattle.lexical.specs.Inner.Lex.{tokenAt, tailOf, cleanStep}
 use Rattle.lexical.specs.Joined.{taken, shutIn, restAt, opensComment, opensTemplate, openGo, openOf, openBelow, restsFrom, openAfter, restsIn}
-use Rattle.lexical.specs.Inner.Joined.{restsBy}
-use Rattle.lexical.proofs.EndLaws.{cons-at}
+use Rattle.lexical.specs.Inner.Joined.{restIn, restsBy}
+use Rattle.lexical.proofs.EndLaws.{cons-at, quote-le, comment-le}
 use Rattle.lexical.proofs.TokenLaws.{next-is, size-some}
 use Rattle.lexical.proofs.LexLaws.{step-on, step-tail}
 
@@ -156,6 +156,17 @@ pub rests-length : (o : Open) (ls : List (List ℕ)) → length (restsFrom o ls)
 unfolding restsFrom
 rests-length o [] = refl
 rests-length o (l ∷ ls) = ap suc (rests-length (openBelow o l) ls)
+
+-- a rest begins in its line, or at its end
+taken-le : (o : Open) (l : List ℕ) → taken o l ≤ length l
+unfolding taken
+taken-le Nothing l = omega arith
+taken-le Comment l = comment-le l
+taken-le Template l = quote-le l 96
+
+pub rest-le : (joined : Bool) (o : Open) (l : List ℕ) → restIn joined o l .from ≤ length l
+rest-le true o l = taken-le o l
+rest-le false o l = omega arith
 
 -- what a loop carries gives what is cleaned
 rests-joined : (o : Open) (ls : List (List ℕ)) → restsBy true o ls ≡ restsFrom o ls

@@ -18,7 +18,7 @@ ghost use Rattle.lexical.specs.Inner.Phi.{sees, seesAll};
 ghost use Rattle.lexical.specs.Idents.{charLen, joins, noWord};
 ghost use Rattle.lexical.specs.Inner.Idents.{nextWord};
 ghost use Rattle.lexical.specs.Joined.{taken, shutIn, restAt, opensComment, opensTemplate, openOf, openBelow};
-ghost use Rattle.lexical.specs.Inner.Joined.{openIn};
+ghost use Rattle.lexical.specs.Inner.Joined.{restIn};
 
 // What becomes of a token: its one byte is kept, a literal leaves `S`, a comment goes.
 pub enum Kind {
@@ -779,7 +779,7 @@ fn shuts(s: &[u8], above: Open) -> bool
 }
 
 // The rest of a line, past what was left open above it: it is cleaned as a line of its own.
-pub fn rest_of(s: &[u8], above: Open) -> &[u8]
+fn rest_of(s: &[u8], above: Open) -> &[u8]
     ensures { λ r. ⌜ now r ≡ restAt above (now (s .entry)) ⌝ }
 {
     lines::cut(s, taken_by(s, above), s.len())
@@ -795,12 +795,25 @@ fn open_below(s: &[u8], above: Open) -> Open
     open_of(rest_of(s, above))
 }
 
-// The same where lines are `joined`, and else nothing.
-pub fn open_in(joined: bool, s: &[u8], above: Open) -> Open
-    ensures { λ r. ⌜ r ≡ openIn joined above (now (s .entry)) ⌝ }
+// Where the rest of a line begins, and what the line leaves open for the next.
+pub struct Rest {
+    pub from: usize,
+    pub below: Open,
+}
+
+// The rest of a line where lines are `joined`; else the line itself, and it leaves nothing open.
+pub fn rest_in(joined: bool, s: &[u8], above: Open) -> Rest
+    ensures { λ r. ⌜ r ≡ restIn joined above (now (s .entry)) ⌝ }
 {
-    if joined {
-        return open_below(s, above);
+    if !joined {
+        return Rest {
+            from: 0,
+            below: Open::Nothing,
+        };
     }
-    Open::Nothing
+    let from = taken_by(s, above);
+    Rest {
+        from,
+        below: open_below(s, above),
+    }
 }

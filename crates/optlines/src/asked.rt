@@ -1,4 +1,5 @@
 // The arguments of the program.
+ghost use Prim.Native.Nat.{suc, _≤_};
 
 // Which passes are asked for: all, or the one of a number.
 pub enum Passes {
@@ -12,14 +13,52 @@ pub struct Task {
     pub mode: usize,
 }
 
-// The modes.
-const PLAIN: usize = 0;
+// The mode that is asked for so far, and the argument that is to be read next.
+pub struct Words {
+    pub strict: bool,
+    pub joined: bool,
+    pub next: usize,
+}
 
-const STRICT: usize = 1;
+// The number of the mode that is asked for.
+pub fn mode_of(words: Words) -> usize {
+    if words.joined & words.strict {
+        return 3;
+    }
+    if words.joined {
+        return 2;
+    }
+    if words.strict { 1 } else { 0 }
+}
 
-// The mode that is asked for, by whether it is to be strict.
-pub fn mode_of(strict: bool) -> usize {
-    if strict { STRICT } else { PLAIN }
+// Takes the next argument, where it is one of a mode.
+fn take_mode(words: Words) -> Words
+    requires { ⌜ words .next ≤ 8 ⌝ }
+    ensures { λ r. ⌜ r .next ≤ suc (words .next) ⌝ }
+{
+    if is_word(words.next, b"--strict") {
+        return Words {
+            strict: true,
+            joined: words.joined,
+            next: words.next + 1,
+        };
+    }
+    if is_word(words.next, b"--joined") {
+        return Words {
+            strict: words.strict,
+            joined: true,
+            next: words.next + 1,
+        };
+    }
+    words
+}
+
+// Takes the next two, where they are of modes.
+pub fn take_modes(words: Words) -> Words
+    requires { ⌜ words .next ≤ 7 ⌝ }
+    ensures { λ r. ⌜ r .next ≤ suc (suc (words .next)) ⌝ }
+{
+    take_mode(take_mode(words))
 }
 
 // What a word is as a number.

@@ -1,4 +1,4 @@
-// Tidies a listing: `optlines [--strict] [--pass N] [--] [FILE]`, where `--strict` may also stand behind `--pass N`. It reads FILE, or
+// Tidies a listing: `optlines [--strict] [--joined] [--pass N] [--] [FILE]`, where the words for a mode may also stand behind `--pass N`. It reads FILE, or
 // standard input, and writes the tidy listing, or `refused`, the number and the place, to standard output. On standard error it says nothing where it tidied, `optlines: refused ..` first where it refused, and
 // anything else where it could not read or write: a program in Rattle sets no exit status, so tools/front.sh makes one of that.
 mod asked;
@@ -9,6 +9,7 @@ ghost use Prim.Native.Nat.{_≤_};
 ghost use lib.ListN.{length};
 use asked::Passes;
 use asked::Task;
+use asked::Words;
 use libc::STDERR_FILENO;
 use libc::STDIN_FILENO;
 use libc::STDOUT_FILENO;
@@ -163,7 +164,7 @@ fn tidy_named(task: Task, at: usize) {
 
 // Takes the arguments from `at` on: a file's name, or none.
 fn take_file(task: Task, at: usize)
-    requires { ⌜ at ≤ 6 ⌝ }
+    requires { ⌜ at ≤ 8 ⌝ }
 {
     if os::arg_count() > at + 1 {
         io::write_all(STDERR_FILENO, b"optlines: more than one file is named\n");
@@ -174,7 +175,7 @@ fn take_file(task: Task, at: usize)
 
 // Takes the arguments from `at` on: `--` or nothing, then a file's name or none.
 fn take_rest(task: Task, at: usize)
-    requires { ⌜ at ≤ 5 ⌝ }
+    requires { ⌜ at ≤ 7 ⌝ }
 {
     if asked::is_word(at, b"--") {
         take_file(task, at + 1);
@@ -187,33 +188,36 @@ fn take_rest(task: Task, at: usize)
     take_file(task, at);
 }
 
-// Takes the arguments from `at` on, behind `--pass N`: `--strict` or nothing, then the rest.
-fn take_one(pass: usize, strict: bool, at: usize)
-    requires { ⌜ at ≤ 4 ⌝ }
+// Takes the arguments behind `--pass N`: words for a mode, then the rest.
+fn take_one(pass: usize, words: Words)
+    requires { ⌜ words .next ≤ 5 ⌝ }
 {
-    let again = asked::is_word(at, b"--strict");
+    let more = asked::take_modes(words);
     let passes = Passes::One(pass);
-    let mode = asked::mode_of(strict | again);
-    let task = Task { passes, mode };
-    if again {
-        take_rest(task, at + 1);
-        return;
-    }
-    take_rest(task, at);
+    let mode = asked::mode_of(more);
+    take_rest(Task { passes, mode }, more.next);
 }
 
-// Takes the arguments from `at` on: `--pass N` or nothing, then the rest.
-fn take_passes(strict: bool, at: usize)
-    requires { ⌜ at ≤ 2 ⌝ }
+// Takes the arguments behind the words for a mode: `--pass N` or nothing, then the rest.
+fn take_passes(words: Words)
+    requires { ⌜ words .next ≤ 3 ⌝ }
 {
+    let at = words.next;
     if !asked::is_word(at, b"--pass") {
         let passes = Passes::All;
-        let mode = asked::mode_of(strict);
+        let mode = asked::mode_of(words);
         take_rest(Task { passes, mode }, at);
         return;
     }
     match asked::number_of(at + 1) {
-        asked::Number::Is(pass) => take_one(pass, strict, at + 2),
+        asked::Number::Is(pass) => take_one(
+            pass,
+            Words {
+                strict: words.strict,
+                joined: words.joined,
+                next: at + 2,
+            },
+        ),
         asked::Number::Missing => tell::say_word(
             b"optlines: --pass wants a number from 1 to 6, not: ",
             at + 1,
@@ -222,9 +226,10 @@ fn take_passes(strict: bool, at: usize)
 }
 
 fn main() {
-    if asked::is_word(1, b"--strict") {
-        take_passes(true, 2);
-        return;
-    }
-    take_passes(false, 1);
+    let words = asked::take_modes(Words {
+        strict: false,
+        joined: false,
+        next: 1,
+    });
+    take_passes(words);
 }

@@ -23,9 +23,10 @@ use Rattle.lexical.specs.declared.Tail.{Tail}
 use Rattle.lexical.specs.Lex.{lastOf, token, leaves, lexGo, stripLexical}
 use Rattle.lexical.specs.Inner.Lex.{tokenAt, tailOf, pushed, grown, cleanStep}
 use Rattle.lexical.specs.declared.Open.{Open}
+use Rattle.lexical.specs.declared.Rest.{Rest}
 use Rattle.lexical.specs.declared.Open.the-variants.{Nothing}
-use Rattle.lexical.specs.Joined.{taken, restAt, restsIn}
-use Rattle.lexical.specs.Inner.Joined.{openIn, restsBy}
+use Rattle.lexical.specs.Joined.{restsIn}
+use Rattle.lexical.specs.Inner.Joined.{restIn, restBy, restsBy}
 use Rattle.lexical.specs.Inner.Plain.{plainLen, lowLast, lowTail}
 use Rattle.lexical.proofs.TokenLaws.{token-kept}
 use Rattle.lexical.proofs.TailLaws.{after-low}
@@ -245,7 +246,7 @@ place-start joined t d s u p q r b =
 module _ {joined : Bool} {t d₀ d s₀ s u₀ u : List ℕ} {i k c n : ℕ} {st : Bool} {above : Open} (h : PlaceInv joined t d₀ d s₀ s u₀ u i k c n st above) where
   module _ (q : i < length t) (e : ℕ) (z : e ≡ i + upTo 10 (drop i t)) where
     -- the rest of the line, and those of the lines below it
-    todo-is : restsBy joined above (linesOf (drop i t)) ≡ restAt above (part i e t) ∷ restsBy joined (openIn joined above (part i e t)) (linesOf (drop (min (e + 1) (length t)) t))
+    todo-is : restsBy joined above (linesOf (drop i t)) ≡ restBy joined above (part i e t) ∷ restsBy joined (restIn joined above (part i e t) .below) (linesOf (drop (min (e + 1) (length t)) t))
     unfolding restsBy
     todo-is = ap (restsBy joined above) (lines-at t i e q z)
 
@@ -260,28 +261,28 @@ module _ {joined : Bool} {t d₀ d s₀ s u₀ u : List ℕ} {i k c n : ℕ} {st
     pub place-flag : k < length s
     place-flag = let p = writing-room (writing-as (on-starts todo-is) (h .starts)) in omega arith
 
-    pub place-room : {l : List ℕ} → l ≡ restAt above (part i e t) → Room (idsPost l) c u n
-    place-room a = room-as (ap idsPost (sym a)) (rows-room idsPre idsPost (h .blocks) todo-is)
+    pub place-room : {r : Rest} → r ≡ restIn joined above (part i e t) → Room (idsPost (drop (r .from) (part i e t))) c u n
+    place-room a = room-as (ap (λ (r : Rest). idsPost (drop (r .from) (part i e t))) (sym a)) (rows-room idsPre idsPost (h .blocks) todo-is)
 
-    pub place-on : {b f last c′ : ℕ} {l u′ : List ℕ} {n′ j : ℕ} {st′ : Bool} {above′ : Open} → Bytes t → b ≡ c → f ≡ cond st 1 0 → l ≡ restAt above (part i e t) →
-        Moved (idsPost l) c u n c′ u′ n′ × (last ≡ lastOf (stripLexical l)) → above′ ≡ openIn joined above (part i e t) → st′ ≡ startsByLast last st → j ≡ min (e + 1) (length t) →
-        PlaceInv joined t d₀ (set d k b) s₀ (set s k f) u₀ u′ j (k + 1) c′ n′ st′ above′
-    unfolding curBy taken
-    place-on {b} {f} {last} {c′} {l} {u′} {n′} {j} {st′} {above′} a x y r m o w v =
+    pub place-on : {b f last c′ : ℕ} {r : Rest} {u′ : List ℕ} {n′ j : ℕ} {st′ : Bool} → Bytes t → b ≡ c → f ≡ cond st 1 0 → r ≡ restIn joined above (part i e t) →
+        Moved (idsPost (drop (r .from) (part i e t))) c u n c′ u′ n′ × (last ≡ lastOf (stripLexical (drop (r .from) (part i e t)))) → st′ ≡ startsByLast last st →
+        j ≡ min (e + 1) (length t) → PlaceInv joined t d₀ (set d k b) s₀ (set s k f) u₀ u′ j (k + 1) c′ n′ st′ (r .below)
+    unfolding curBy
+    place-on {b} {f} {last} {c′} {r} {u′} {n′} {j} {st′} a x y z m w v =
         let line : List ℕ = part i e t in
-        let rest : List ℕ = restAt above line in
-        let more : List (List ℕ) = restsBy joined above′ (linesOf (drop j t)) in
+        let rest : List ℕ = drop (r .from) line in
+        let more : List (List ℕ) = restsBy joined (r .below) (linesOf (drop j t)) in
         let todo : restsBy joined above (linesOf (drop i t)) ≡ rest ∷ more =
         todo-is
-        ∙ ap (λ (p : ℕ). rest ∷ restsBy joined (openIn joined above line) (linesOf (drop p t))) (sym v)
-        ∙ ap (λ (p : Open). rest ∷ restsBy joined p (linesOf (drop j t))) (sym o) in
+        ∙ ap (λ (p : ℕ). restBy joined above line ∷ restsBy joined (restIn joined above line .below) (linesOf (drop p t))) (sym v)
+        ∙ ap (λ (p : Rest). drop (p .from) line ∷ restsBy joined (p .below) (linesOf (drop j t))) (sym z) in
         let g : startsAfter (stripLexical rest) st ≡ st′ =
-        sym (after-by (stripLexical rest) st (bytes-strip rest (bytes-drop (taken above line) line (bytes-part t i e a))))
-        ∙ ap (λ (p : ℕ). startsByLast p st) (sym (m .1 ∙ ap (λ (p : List ℕ). lastOf (stripLexical p)) r))
+        sym (after-by (stripLexical rest) st (bytes-strip rest (bytes-drop (r .from) line (bytes-part t i e a))))
+        ∙ ap (λ (p : ℕ). startsByLast p st) (sym (m .1))
         ∙ sym w in
         record {
           i≤ = omega arith;
-          blocks = rows-on idsPre idsPost (h .blocks) todo x (moved-as (ap idsPost r) (m .0));
+          blocks = rows-on idsPre idsPost (h .blocks) todo x (m .0);
           starts = entry-on f (writing-as (on-starts todo
               ∙ ap (λ (p : ℕ). p ∷ flagsOf (startsGo (cleaned more) (startsAfter (stripLexical rest) st))) (sym y)
               ∙ ap (λ (p : Bool). f ∷ flagsOf (startsGo (cleaned more) p)) g) (h .starts));

@@ -301,11 +301,12 @@ pub fn place_lines(
         blocks[k] = wide(c);
         starts[k] = flag(st);
         k += 1;
-        let x = walk_line(lexical::rest_of(line, above), c, up, n);
+        let r = lexical::rest_in(joined, line, above);
+        let x = walk_line(&line[r.from..], c, up, n);
         c = x.block;
         n = x.next;
         st = starts_after(x.last, st);
-        above = lexical::open_in(joined, line, above);
+        above = r.below;
         i = lines::after(text, e);
     }
     k

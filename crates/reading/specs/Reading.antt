@@ -2,7 +2,7 @@
 use Prim.Native.Nat.{ℕ, _%_}
 use mathlib.Core.Bool.{Bool, true, false}
 use mathlib.Core.List.{List}
-use lib.Dec.{eqb}
+use lib.Dec.{eqb, ltb}
 use Rattle.lexical.specs.declared.Open.{Open}
 use Rattle.lexical.specs.declared.Open.the-variants.{Nothing, Comment, Template}
 use Rattle.lexical.specs.Joined.{restsIn, openAfter}
@@ -27,13 +27,17 @@ cleanIn joined ls = cleaned (restsIn joined ls)
 abbrev pub readingBy : Bool → Bool → Reading
 readingBy strict joined = record { purity = purityIn strict; clean = cleanIn joined }
 
--- mode 1 is strict
+-- modes 1 and 3 are strict
 abbrev pub strictAt : ℕ → Bool
 strictAt k = eqb (k % 2) 1
 
--- as mode k reads: 0 plain, 1 strict
+-- in modes 2 and 3 lines are joined
+abbrev pub joinedAt : ℕ → Bool
+joinedAt k = ltb 1 k
+
+-- as mode k reads: 0 plain, 1 strict, 2 joined, 3 both
 abbrev pub readingOf : ℕ → Reading
-readingOf k = readingBy (strictAt k) false
+readingOf k = readingBy (strictAt k) (joinedAt k)
 
 -- `pure_expr`
 abbrev pub pureIn : Reading → List ℕ → Bool

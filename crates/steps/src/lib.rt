@@ -108,6 +108,7 @@ fn calls_step(
     ensures tables { λ _. ⌜ (now (starts .exit) ≡ replicate (length (now (starts .entry))) 0) × ((now (near .exit) ≡ replicate (length (now (near .entry))) 0) × ((now (stores .exit) ≡ replicate (length (now (stores .entry))) 0) × ((now (notes .exit) ≡ replicate (length (now (notes .entry))) 0) × ((now (owner .exit) ≡ replicate (length (now (owner .entry))) 0) × ((now (ends .exit) ≡ replicate (length (now (ends .entry))) 0) × (now (blocks .exit) ≡ replicate (length (now (blocks .entry))) 0)))))) ⌝ }
 {
     let n = calls::rebuild_calls(
+        m.mode,
         src,
         own,
         ends,
@@ -149,7 +150,19 @@ fn bind_step(
     ensures memory { λ _. ⌜ now (up .exit) ≡ leftU 6 (now (src .entry)) (now (up .entry)) ⌝ }
     ensures tables { λ _. ⌜ (now (starts .exit) ≡ replicate (length (now (starts .entry))) 0) × ((now (marks .exit) ≡ replicate (length (now (marks .entry))) 0) × ((now (blocks .exit) ≡ replicate (length (now (blocks .entry))) 0) × ((now (ends .exit) ≡ replicate (length (now (ends .entry))) 0) × ((now (seen .exit) ≡ replicate (length (now (seen .entry))) 0) × (now (first .exit) ≡ replicate (length (now (first .entry))) 0))))) ⌝ }
 {
-    let n = bind::bind_declarators(src, own, ends, blocks, starts, up, marks, seen, first, dst);
+    let n = bind::bind_declarators(
+        m.mode,
+        src,
+        own,
+        ends,
+        blocks,
+        starts,
+        up,
+        marks,
+        seen,
+        first,
+        dst,
+    );
     lines::wipe(starts, starts.len());
     lines::wipe(marks, marks.len());
     slots::wipe(blocks);
