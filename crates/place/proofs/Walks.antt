@@ -15,6 +15,7 @@ use Rattle.lines.proofs.OutLaws.{Writing, writing-start, writing-as, writing-ro
 use Rattle.text.specs.White.{isWhite}
 use Rattle.text.specs.Class.{isQuote}
 use Rattle.text.specs.Trim.{toOf, endWhite}
+use Rattle.text.proofs.Trims.{rest-of}
 use Rattle.lexical.specs.declared.Kind.{Kind}
 use Rattle.lexical.specs.declared.Kind.the-variants.{Kept}
 use Rattle.lexical.specs.declared.Token.{Token}
@@ -217,9 +218,6 @@ bytes-part t i e p j = go (ltb j (e - i)) refl
     go true h = let q = p (i + j) in let g = getD-take (e - i) (drop i t) j 0 (ltb-true j (e - i) h) in let f = getD-drop i t j 0 in omega arith
     go false h = let l = ltb-false j (e - i) h in let g = List·getD-eq-default (take (e - i) (drop i t)) 0 {n = j} (omega (arith, length-take (e - i) (drop i t))) in omega arith
 
-bytes-drop : (k : ℕ) (s : List ℕ) → Bytes s → Bytes (drop k s)
-bytes-drop k s p j = let q = p (k + j) in let g = getD-drop k s j 0 in omega arith
-
 rests-long : (joined : Bool) (ls : List (List ℕ)) → length (restsIn joined ls) ≡ length ls
 rests-long true ls = rests-length Nothing ls
 rests-long false ls = refl
@@ -261,30 +259,39 @@ module _ {joined : Bool} {t d₀ d s₀ s u₀ u : List ℕ} {i k c n : ℕ} {st
     pub place-flag : k < length s
     place-flag = let p = writing-room (writing-as (on-starts todo-is) (h .starts)) in omega arith
 
-    pub place-room : {r : Rest} → r ≡ restIn joined above (part i e t) → Room (idsPost (drop (r .from) (part i e t))) c u n
-    place-room a = room-as (ap (λ (r : Rest). idsPost (drop (r .from) (part i e t))) (sym a)) (rows-room idsPre idsPost (h .blocks) todo-is)
+    -- the rest, as a part of the line
+    abbrev rest : Rest → List ℕ
+    rest r = part (r .from) (length (part i e t)) (part i e t)
+
+    rest-is : (r : Rest) → rest r ≡ drop (r .from) (part i e t)
+    rest-is r = rest-of (part i e t) (r .from)
+
+    pub place-room : {r : Rest} → r ≡ restIn joined above (part i e t) → Room (idsPost (rest r)) c u n
+    place-room {r} a =
+        room-as (ap (λ (x : Rest). idsPost (drop (x .from) (part i e t))) (sym a) ∙ ap idsPost (sym (rest-is r))) (rows-room idsPre idsPost (h .blocks) todo-is)
 
     pub place-on : {b f last c′ : ℕ} {r : Rest} {u′ : List ℕ} {n′ j : ℕ} {st′ : Bool} → Bytes t → b ≡ c → f ≡ cond st 1 0 → r ≡ restIn joined above (part i e t) →
-        Moved (idsPost (drop (r .from) (part i e t))) c u n c′ u′ n′ × (last ≡ lastOf (stripLexical (drop (r .from) (part i e t)))) → st′ ≡ startsByLast last st →
+        Moved (idsPost (rest r)) c u n c′ u′ n′ × (last ≡ lastOf (stripLexical (rest r))) → st′ ≡ startsByLast last st →
         j ≡ min (e + 1) (length t) → PlaceInv joined t d₀ (set d k b) s₀ (set s k f) u₀ u′ j (k + 1) c′ n′ st′ (r .below)
     unfolding curBy
     place-on {b} {f} {last} {c′} {r} {u′} {n′} {j} {st′} a x y z m w v =
         let line : List ℕ = part i e t in
-        let rest : List ℕ = drop (r .from) line in
+        let l : List ℕ = rest r in
         let more : List (List ℕ) = restsBy joined (r .below) (linesOf (drop j t)) in
-        let todo : restsBy joined above (linesOf (drop i t)) ≡ rest ∷ more =
+        let todo : restsBy joined above (linesOf (drop i t)) ≡ l ∷ more =
         todo-is
         ∙ ap (λ (p : ℕ). restBy joined above line ∷ restsBy joined (restIn joined above line .below) (linesOf (drop p t))) (sym v)
-        ∙ ap (λ (p : Rest). drop (p .from) line ∷ restsBy joined (p .below) (linesOf (drop j t))) (sym z) in
-        let g : startsAfter (stripLexical rest) st ≡ st′ =
-        sym (after-by (stripLexical rest) st (bytes-strip rest (bytes-drop (r .from) line (bytes-part t i e a))))
+        ∙ ap (λ (p : Rest). drop (p .from) line ∷ restsBy joined (p .below) (linesOf (drop j t))) (sym z)
+        ∙ ap (λ (p : List ℕ). p ∷ more) (sym (rest-is r)) in
+        let g : startsAfter (stripLexical l) st ≡ st′ =
+        sym (after-by (stripLexical l) st (bytes-strip l (bytes-part line (r .from) (length line) (bytes-part t i e a))))
         ∙ ap (λ (p : ℕ). startsByLast p st) (sym (m .1))
         ∙ sym w in
         record {
           i≤ = omega arith;
           blocks = rows-on idsPre idsPost (h .blocks) todo x (m .0);
           starts = entry-on f (writing-as (on-starts todo
-              ∙ ap (λ (p : ℕ). p ∷ flagsOf (startsGo (cleaned more) (startsAfter (stripLexical rest) st))) (sym y)
+              ∙ ap (λ (p : ℕ). p ∷ flagsOf (startsGo (cleaned more) (startsAfter (stripLexical l) st))) (sym y)
               ∙ ap (λ (p : Bool). f ∷ flagsOf (startsGo (cleaned more) p)) g) (h .starts));
         }
 

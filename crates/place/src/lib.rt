@@ -301,12 +301,13 @@ pub fn place_lines(
         blocks[k] = wide(c);
         starts[k] = flag(st);
         k += 1;
-        let r = lexical::rest_in(joined, line, above);
-        let x = walk_line(&line[r.from..], c, up, n);
+        let rest = lexical::rest_in(joined, line, above);
+        let from = rest.from;
+        let x = walk_line(&line[from..], c, up, n);
         c = x.block;
         n = x.next;
         st = starts_after(x.last, st);
-        above = r.below;
+        above = rest.below;
         i = lines::after(text, e);
     }
     k

@@ -2,10 +2,14 @@
 use borrow.Author.Needs.{needs}
 use Prim.Native.Nat.{_-_}
 use native.Mathlib.Omega.{arith}
+use mathlib.Core.Path.{ap}
 use lib.ListN.{length}
+use Rattle.lines.specs.Lf.{part}
 use Rattle.lines.proofs.LfLaws.{find-le}
-use Rattle.place.specs.Inner.Parents.{idsPre, idsPost}
 use Rattle.lines.proofs.OutLaws.{writing-length}
+use Rattle.lexical.specs.declared.Rest.{Rest}
+use Rattle.lexical.proofs.JoinedLaws.{rest-le}
+use Rattle.place.specs.Inner.Parents.{idsPre, idsPost}
 use Rattle.place.proofs.Tables.{rows-length, rows-up}
 use Rattle.place.proofs.Walks.{PlaceInv, place-start, place-block, place-flag, place-room, place-on, place-done}
 use Rattle.place.proofs.Marks.{EndsInv, ends-start, ends-place, ends-on, ends-done}
@@ -60,17 +64,23 @@ slice-write-starts c = place-flag (c .before .before .before .before .before .be
 add-k : tie.Need-add-k Inv-loop μ-loop
 add-k c = omega (arith, place-block (c .before .before .before .before .before .before .loop .inv .0) (c .before .before .before .before .before .loop-test .taken) (c .before .before .before .before .find-byte .result) (c .before .before .before .before .find-byte .ensures), rows-length idsPre idsPost (c .before .before .before .before .before .before .loop .inv .0 .blocks))
 
-rest-of-requires : tie.Need-rest-of-requires Inv-loop μ-loop
-rest-of-requires c κs = search needs
+rest-in-requires : tie.Need-rest-in-requires Inv-loop μ-loop
+rest-in-requires c κs = search needs
+
+sub-walk-line : tie.Need-sub-walk-line Inv-loop μ-loop
+sub-walk-line c = omega (arith, rest-le (c .before .before .before .before .before .before .before .before .before .before .before .before .before .args .joined) (c .before .before .before .before .before .before .before .loop .above) (part (c .before .before .before .before .before .before .before .loop .i) (c .before .before .before .before .before .find-byte .result) (c .before .before .before .before .before .before .before .before .before .before .before .before .before .args .text .now)), ap (λ (r : Rest). r .from) (c .rest-in .ensures))
+
+part-walk-line-start : tie.Need-part-walk-line-start Inv-loop μ-loop
+part-walk-line-start c = omega (arith, rest-le (c .before .before .before .before .before .before .before .before .before .before .before .before .before .args .joined) (c .before .before .before .before .before .before .before .loop .above) (part (c .before .before .before .before .before .before .before .loop .i) (c .before .before .before .before .before .find-byte .result) (c .before .before .before .before .before .before .before .before .before .before .before .before .before .args .text .now)), ap (λ (r : Rest). r .from) (c .rest-in .ensures))
+
+part-walk-line-end : tie.Need-part-walk-line-end Inv-loop μ-loop
+part-walk-line-end c = search needs
 
 walk-line-requires : tie.Need-walk-line-requires Inv-loop μ-loop
-walk-line-requires c κs = place-room (c .before .before .before .before .before .before .before .before .loop .inv .0) (c .before .before .before .before .before .before .before .loop-test .taken) (c .before .before .before .before .before .before .find-byte .result) (c .before .before .before .before .before .before .find-byte .ensures) (c .before .rest-of .ensures)
+walk-line-requires c κs = place-room (c .before .before .before .before .before .before .before .before .before .loop .inv .0) (c .before .before .before .before .before .before .before .before .loop-test .taken) (c .before .before .before .before .before .before .before .find-byte .result) (c .before .before .before .before .before .before .before .find-byte .ensures) (c .before .before .rest-in .ensures)
 
 starts-after-requires : tie.Need-starts-after-requires Inv-loop μ-loop
 starts-after-requires c κs = search needs
-
-open-in-requires : tie.Need-open-in-requires Inv-loop μ-loop
-open-in-requires c κs = search needs
 
 after-requires : tie.Need-after-requires Inv-loop μ-loop
 after-requires c κs = search needs
@@ -79,7 +89,7 @@ loop-less : tie.Need-loop-less Inv-loop μ-loop
 loop-less c = omega (arith, c .after .ensures, c .before .before .before .before .before .before .before .before .before .before .before .before .find-byte .ensures, c .before .before .before .before .before .before .before .before .before .before .before .before .before .loop-test .taken)
 
 loop-again : tie.Need-loop-again Inv-loop μ-loop
-loop-again c = (place-on (c .before .before .before .before .before .before .before .before .before .before .before .before .before .before .loop .inv .0) (c .before .before .before .before .before .before .before .before .before .before .before .before .before .loop-test .taken) (c .before .before .before .before .before .before .before .before .before .before .before .before .find-byte .result) (c .before .before .before .before .before .before .before .before .before .before .before .before .find-byte .ensures) (λ j. omega (arith, c .before .before .before .before .before .before .before .before .before .before .before .before .before .before .before .before .before .before .before .shared-slice-known .given j)) (c .before .before .before .before .before .before .before .before .before .wide .ensures) (c .before .before .before .before .before .before .before .before .flag .ensures) (c .before .before .before .before .before .before .before .rest-of .ensures) (c .before .before .before .before .before .walk-line .ensures) (c .before .open-in .ensures) (c .before .before .starts-after .ensures) (c .after .ensures), ends-on (c .before .before .before .before .before .before .before .before .before .before .before .before .before .before .loop .inv .1) (c .before .before .before .before .before .before .before .before .before .before .before .before .before .loop-test .taken) (c .before .before .before .before .before .before .before .before .before .before .before .before .find-byte .result) (c .before .before .before .before .before .before .before .before .before .before .before .before .find-byte .ensures) (c .before .before .before .before .before .before .before .before .before .before .end-mark .ensures) (c .after .ensures))
+loop-again c = (place-on (c .before .before .before .before .before .before .before .before .before .before .before .before .before .before .loop .inv .0) (c .before .before .before .before .before .before .before .before .before .before .before .before .before .loop-test .taken) (c .before .before .before .before .before .before .before .before .before .before .before .before .find-byte .result) (c .before .before .before .before .before .before .before .before .before .before .before .before .find-byte .ensures) (λ j. omega (arith, c .before .before .before .before .before .before .before .before .before .before .before .before .before .before .before .before .before .before .before .shared-slice-known .given j)) (c .before .before .before .before .before .before .before .before .before .wide .ensures) (c .before .before .before .before .before .before .before .before .flag .ensures) (c .before .before .before .before .before .before .before .rest-in .ensures) (c .before .before .before .before .walk-line .ensures) (c .before .starts-after .ensures) (c .after .ensures), ends-on (c .before .before .before .before .before .before .before .before .before .before .before .before .before .before .loop .inv .1) (c .before .before .before .before .before .before .before .before .before .before .before .before .before .loop-test .taken) (c .before .before .before .before .before .before .before .before .before .before .before .before .find-byte .result) (c .before .before .before .before .before .before .before .before .before .before .before .before .find-byte .ensures) (c .before .before .before .before .before .before .before .before .before .before .end-mark .ensures) (c .after .ensures))
 
 same-length : tie.Need-same-length Inv-loop μ-loop
 same-length c = rows-length idsPre idsPost (c .before .loop .inv .0 .blocks)
@@ -116,10 +126,12 @@ place-lines-spec =
     flag-requires
     slice-write-starts
     add-k
-    rest-of-requires
+    rest-in-requires
+    sub-walk-line
+    part-walk-line-start
+    part-walk-line-end
     walk-line-requires
     starts-after-requires
-    open-in-requires
     after-requires
     loop-less
     loop-again
