@@ -15,7 +15,7 @@ use Rattle.place.specs.Blocks.{cleaned}
 use Rattle.place.specs.Starts.{isBlank}
 use Rattle.place.proofs.Blocks.{cleaned-append, cleaned-length}
 use Rattle.place.proofs.Starts.{header-shown}
-use Rattle.reading.specs.Reading.{Reading, plain, strictAt, readingBy, readingOf, isNothing, endsShut}
+use Rattle.reading.specs.Reading.{Reading, plain, strictAt, joinedAt, readingBy, readingOf, isNothing, endsShut}
 
 -- a reading that cleans as many lines as there are, may be cut below lines that end `shut`, cleans the first line as if it were alone, and leaves of a
 -- header something that is not blank
@@ -57,8 +57,8 @@ modes-lined strict false = record {
   shown = header-shown;
 }
 
-pub mode-lined : (k : ℕ) → Lined (readingOf k) (endsShut false)
-mode-lined k = modes-lined (strictAt k) false
+pub mode-lined : (k : ℕ) → Lined (readingOf k) (endsShut (joinedAt k))
+mode-lined k = modes-lined (strictAt k) (joinedAt k)
 
 -- mode 0 is as the Rust reads
 pub plain-is : readingOf 0 ≡ plain
