@@ -7,12 +7,13 @@ use native.Mathlib.Omega.{arith}
 use lib.Dec.{eqb}
 use lib.ListN.{length}
 use Rattle.lines.specs.Acts.{Act, keep, become, into, gone, act}
-use Rattle.reading.specs.Reading.{Reading}
+use Rattle.reading.specs.Reading.{plain}
+use Rattle.place.specs.Region.{isHeader}
 use Rattle.reading.specs.Uses.{lineReads}
 use Rattle.forms.specs.Breaks.{breaks}
-use Rattle.calls.specs.Leaves.{Leaves, store}
-use Rattle.calls.specs.LeavesOf.{parsedOf, contextOf, startsBelow, leavesOf}
-use Rattle.calls.specs.Calls.{Item, Row, Step, end, skip, absorb, rowLines, has, readLater, breaksOne, putBy, storeStep, stepAt}
+use Rattle.calls.specs.Leaves.{Leaves, store, Context, unclear, target, newed, operand}
+use Rattle.calls.specs.LeavesOf.{parsedOf, contextOf, leavesBy, leavesOf}
+use Rattle.calls.specs.Calls.{Item, Row, Step, end, skip, absorb, rowLines, storesIn, has, readLater, breaksOne, putBy, storeStep, stepAt}
 use Rattle.calls.specs.Inner.Steps.{breaksDown, absorbStep}
 use Rattle.calls.specs.Inner.Tables.{ownerOf}
 use Rattle.calls.proofs.Edges.{takenLines, taken-lines, Passed, none-yet, over-row, took-row, ownerBack, by-table}
@@ -68,14 +69,14 @@ row-stands L b later (into n) x t d over cur took lines above q = let z : _≡_ 
 row-stands L b later gone x t d over cur took lines above q = let z : _≡_ {A = ℕ} 0 1 = cc in absurd (omega arith)
 
 -- a read below and the value that is put in do not hang on starts and blocks
-later-same : (starts : List (List ℕ) → Bool) (blocks : List (List ℕ) → List ℕ) (v : ℕ) (ls : List (List ℕ)) →
+pub later-same : (starts : List (List ℕ) → Bool) (blocks : List (List ℕ) → List ℕ) (v : ℕ) (ls : List (List ℕ)) →
     readLater (leavesBy starts blocks) v ls ≡ readLater (leavesOf plain) v ls
 unfolding readLater
 later-same starts blocks v [] = refl
 later-same starts blocks v (l ∷ ls) =
     ap (λ (more : Bool). cond (isHeader l) false (not (eqb (lineReads v l) 0) || (not (storesIn v (parsedOf l)) && more))) (later-same starts blocks v ls)
 
-put-same : (starts : List (List ℕ) → Bool) (blocks : List (List ℕ) → List ℕ) (c : Context) (cur : List ℕ) (v : ℕ) (value : List ℕ) →
+pub put-same : (starts : List (List ℕ) → Bool) (blocks : List (List ℕ) → List ℕ) (c : Context) (cur : List ℕ) (v : ℕ) (value : List ℕ) →
     putBy (leavesBy starts blocks) c cur v value ≡ putBy (leavesOf plain) c cur v value
 unfolding putBy
 put-same starts blocks unclear cur v value = refl
