@@ -1,12 +1,11 @@
 -- Any whole lines, then a tail that opens with a header and closes no curly brace that it did not open: what three of the passes make of them. Assumes nothing.
 use Prim.Native.Nat.{ℕ}
-use mathlib.Core.Path.{_≡_, refl}
-use mathlib.Core.Bool.{Bool, true, false}
+use mathlib.Core.Path.{_≡_}
+use mathlib.Core.Bool.{Bool, true}
 use mathlib.Core.List.{List, _++_}
 use Rattle.place.specs.Inner.Region.{headed}
-use Rattle.place.specs.Blocks.{cleaned}
 use Rattle.place.specs.Inner.Blocks.{own}
-use Rattle.reading.specs.Reading.{cleanIn, readingBy, strictAt, readingOf, endsShut}
+use Rattle.reading.specs.Reading.{cleanIn, readingBy, strictAt, joinedAt, readingOf, endsShut}
 use Rattle.reading.proofs.Lined.{modes-lined}
 use Rattle.calls.proofs.Instance as calls
 use Rattle.decls.proofs.Passes as decls
@@ -29,6 +28,6 @@ cut-by prunes strict joined upper tail h s o = decls.cut-law upper tail h
 cut-by binds strict joined upper tail h s o = bind.bind-cut (modes-lined strict joined) upper tail h s o
 
 -- the same by the number of a mode
-pub cut-pass : {k : ℕ} → Cuts k → (mode : ℕ) (upper tail : List (List ℕ)) → headed tail ≡ true → own (cleaned tail) ≡ true →
+pub cut-pass : {k : ℕ} → Cuts k → (mode : ℕ) (upper tail : List (List ℕ)) → headed tail ≡ true → endsShut (joinedAt mode) upper ≡ true → own (cleanIn (joinedAt mode) tail) ≡ true →
     stepOf (readingOf mode) k (upper ++ tail) ≡ stepOf (readingOf mode) k upper ++ stepOf (readingOf mode) k tail
-cut-pass c mode upper tail h o = cut-by c (strictAt mode) false upper tail h refl o
+cut-pass c mode upper tail h s o = cut-by c (strictAt mode) (joinedAt mode) upper tail h s o
