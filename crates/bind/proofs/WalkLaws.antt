@@ -682,7 +682,7 @@ rows-spots (l ∷ ls) (b ∷ bs) (s ∷ ss) x y p q = row (rows-spots ls bs ss x
 -- rows and lines tell the lines by the tables
 rows-told : (ls : List (List ℕ)) (sp : List BlockLine) {bs ss : List ℕ} → Rows sp bs ss → linesWithin sp ≡ ls → tabled ls bs ss ≡ sp
 unfolding linesWithin tabled
-rows-told ls [] none e = ap (λ (x : List (List ℕ)). tabled x _ _) (sym e)
+rows-told ls [] (none {bs = bs} {ss = ss}) e = ap (λ (x : List (List ℕ)). tabled x bs ss) (sym e)
 rows-told ls (d ∷ sp) (row {bs = bs} {ss = ss} r) e =
     ap (λ (x : List (List ℕ)). tabled x (d .block ∷ bs) (cond (d .starts) 1 0 ∷ ss)) (sym e)
     ∙ ap (λ (x : List BlockLine). record { line = d .line; block = d .block; starts = eqb (cond (d .starts) 1 0) 1 } ∷ x) (rows-told (linesWithin sp) sp r refl)
