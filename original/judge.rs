@@ -10,9 +10,12 @@ pub const MOST_ROOM: u32 = 32_768;
 /// The number of lent work buffers.
 pub const WORK: u8 = 6;
 
-/// The modes: the original as it is, and its copy in strict mode.
+/// The modes: the original as it is, and its copies in strict mode, in joined mode and in both.
 pub const PLAIN: u8 = 0;
 pub const STRICT: u8 = 1;
+pub const JOINED: u8 = 2;
+pub const BOTH: u8 = 3;
+pub const MODES: [u8; 4] = [PLAIN, STRICT, JOINED, BOTH];
 
 /// Not numbers of the table: the original would not end, and the original panicked.
 pub const SKIPPED: u8 = 255;
@@ -64,7 +67,7 @@ fn accepted(asked: &Asked, work: u8) -> Result<&str, Answer> {
     if asked.pass > 6 {
         return Err(refused(1, 0));
     }
-    if asked.mode > STRICT {
+    if !MODES.contains(&asked.mode) {
         return Err(refused(12, 0));
     }
     if asked.text.len() > MOST_BYTES {
@@ -80,14 +83,19 @@ fn accepted(asked: &Asked, work: u8) -> Result<&str, Answer> {
     crowded_line(text).map_or(Ok(text), |line| Err(refused(6, line)))
 }
 
+/// The whole and one pass of the copy for a mode.
+fn entries(mode: u8) -> (fn(&str) -> String, fn(u8, &str) -> String) {
+    match mode {
+        PLAIN => (opt::optimize, opt::exports::one_pass),
+        STRICT => (strict::optimize, strict::exports::one_pass),
+        JOINED => (joined::optimize, joined::exports::one_pass),
+        _ => (both::optimize, both::exports::one_pass),
+    }
+}
+
 fn run(pass: u8, mode: u8, text: &str) -> Option<String> {
-    let work = || match (mode, pass) {
-        (PLAIN, 0) => opt::optimize(text),
-        (PLAIN, _) => opt::exports::one_pass(pass, text),
-        (_, 0) => strict::optimize(text),
-        _ => strict::exports::one_pass(pass, text),
-    };
-    catch_unwind(AssertUnwindSafe(work)).ok()
+    let (whole, one) = entries(mode);
+    catch_unwind(AssertUnwindSafe(|| if pass == 0 { whole(text) } else { one(pass, text) })).ok()
 }
 
 pub fn answer(asked: &Asked, work: u8) -> Answer {
