@@ -3,7 +3,7 @@
     import optlines
     tidy = optlines.optimize(text)      # all passes over bytes
     text = optlines.run_pass(5, text)   # one pass, 1 to 6
-    tidy = optlines.optimize(text, optlines.STRICT)     # in strict mode
+    tidy = optlines.optimize(text, optlines.STRICT)     # in strict mode; JOINED, STRICT_JOINED
 
 Both raise Refused where the library refuses. `call` works in lent buffers, a Work and a result
 buffer, and answers with numbers. Threads may call at once, each with buffers of its own (optimize
@@ -23,8 +23,8 @@ LINES = 1024  # the most lines of a text
 BRACKETS = 64  # the most bytes '[' of a line
 STACK = 131072  # bytes of stack that are enough for a call, as far as it was measured
 
-# The modes: how passes 1, 2 and 3 judge a value.
-(PLAIN, STRICT) = range(2)
+# The modes: how passes 1, 2 and 3 judge a value, and how 4 and 6 read the lines around a statement.
+(PLAIN, STRICT, JOINED, STRICT_JOINED) = range(4)
 
 # The numbers of include/optlines.h.
 (DONE, BAD_PASS, TOO_LONG, SHORT_WORK, NOT_UTF8, TOO_MANY_LINES, CROWDED, SHORT_RESULT) = range(8)
@@ -41,7 +41,7 @@ _WORDS = {
     CUT: "the text was cut: it ends within the character at byte {place}, counted from 0",
     OVERLONG: "the text has an overlong form: see byte {place}, counted from 0",
     OUTSIDE: "the text has a surrogate or a value above U+10FFFF: see byte {place}, counted from 0",
-    BAD_MODE: "there is no such mode: they are 0 and 1",
+    BAD_MODE: "there is no such mode: they are 0 to 3",
 }
 _UNKNOWN = "refused with number {number} and place {place}, unknown to this module"
 _SONAME = "liboptlines.so.2"

@@ -112,7 +112,20 @@ class Calls(unittest.TestCase):
         phis = b'phi0 = "a" + f() + "b";\nphi1 = ["http://x"];\n'
         self.becomes(3, phis, b'["http://x"];\n', mode=o.PLAIN)
         self.becomes(3, phis, b'"a" + f() + "b";\n', mode=o.STRICT)
-        self.becomes(0, SAMPLE, TIDY, mode=o.STRICT)
+        for mode in (o.STRICT, o.JOINED, o.STRICT_JOINED):
+            self.becomes(0, SAMPLE, TIDY, mode=mode)
+
+    def test_templates_over_lines(self):
+        kept, raw = b'r1 = "a" + f() + "b";\n', b"  let r0;\nx = `{\n}`;\n  r0 = f();\n  use(r0);\n"
+        called = b"  let r0;\nx = `{\n}`;\n  use(f());\n"
+        bound = b"x = `{\n}`;\n  let r0 = f();\n  use(r0);\n"
+        tidy = b"x = `{\n}`;\n  use(f());\n"
+        for mode, sum_left, results in ((o.PLAIN, b"", (raw, raw, raw)), (o.STRICT, kept, (raw, raw, raw)),
+                                        (o.JOINED, b"", (called, bound, tidy)),
+                                        (o.STRICT_JOINED, kept, (called, bound, tidy))):
+            self.becomes(4, raw, results[0], mode=mode)
+            self.becomes(6, raw, results[1], mode=mode)
+            self.becomes(0, kept + raw, sum_left + results[2], mode=mode)
 
     def test_limits(self):
         self.becomes(0, b"x" * o.TEXT, b"x" * o.TEXT)
@@ -131,8 +144,8 @@ class Calls(unittest.TestCase):
         bad = b"\xff" * (o.TEXT + 1)
         self.refused(7, SAMPLE, o.BAD_PASS, 0)
         self.refused(2**64 - 1, SAMPLE, o.BAD_PASS, 0)
-        self.refused(7, bad, o.BAD_PASS, 0, shorter=1, room=0, mode=2)
-        for mode in (2, 2**64 - 1, 2**64, -1):
+        self.refused(7, bad, o.BAD_PASS, 0, shorter=1, room=0, mode=4)
+        for mode in (4, 5, 2**64 - 1, 2**64, -1):
             self.refused(0, SAMPLE, o.BAD_MODE, 0, mode=mode)
             self.refused(0, bad, o.BAD_MODE, 0, shorter=1, room=0, mode=mode)
             self.refused(6, bad, o.BAD_MODE, 0, shorter=1, room=0, mode=mode)
@@ -184,8 +197,8 @@ class Module(unittest.TestCase):
         no_pass = "there is no such pass: they are 1 to 6"
         for number in (0, 7, -1, 2**64 - 1, 2**64 + 1):
             self.raises(o.BAD_PASS, 0, no_pass, o.run_pass, number, SAMPLE)
-        no_mode = "there is no such mode: they are 0 and 1"
-        for mode in (2, -1, 2**64):
+        no_mode = "there is no such mode: they are 0 to 3"
+        for mode in (4, -1, 2**64):
             self.raises(o.BAD_MODE, 0, no_mode, o.optimize, SAMPLE, mode)
             self.raises(o.BAD_MODE, 0, no_mode, o.run_pass, 6, SAMPLE, mode)
         long, many = b"x" * (o.TEXT + 1), b"\n" * (o.LINES + 1)
@@ -257,7 +270,8 @@ class Header(unittest.TestCase):
     def test_defines(self):
         found = re.findall(r"^#define OPTLINES_(\w+) (.+)$", self.text, re.M)
         self.assertEqual(sorted(name for name, _ in found),
-                         ["BLOCKS", "BRACKETS", "BYTES", "LINES", "PLAIN", "STACK", "STRICT", "TEXT"])
+                         ["BLOCKS", "BRACKETS", "BYTES", "JOINED", "LINES", "PLAIN", "STACK", "STRICT",
+                          "STRICT_JOINED", "TEXT"])
         for name, value in found:
             self.assertEqual(getattr(o, name), int(value), name)
 

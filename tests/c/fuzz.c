@@ -16,7 +16,7 @@ enum { WORK = 6, MORE = 3, ROOM = 2 * OPTLINES_TEXT, LONGEST = OPTLINES_TEXT + 6
 /* The bytes of an input before the text. */
 enum { PASS, MODE, SHORTER, ROOM_OF, ROOM_TIMES, HEAD };
 /* Passes and modes that are asked for: those that there are, and some that there are not. */
-enum { PASSES = 9, MODES = 4 };
+enum { PASSES = 9, MODES = 6 };
 
 /* A lent buffer: as many bytes, at the end of its pages. */
 struct lent {
@@ -95,9 +95,9 @@ static void judge(uint8_t pass, uint8_t mode, uint8_t number, size_t length, siz
         fail("a length that cannot be");
     if ((number == OPTLINES_BAD_PASS) != (pass > 6))
         fail("the pass is misjudged");
-    if (pass <= 6 && (number == OPTLINES_BAD_MODE) != (mode > OPTLINES_STRICT))
+    if (pass <= 6 && (number == OPTLINES_BAD_MODE) != (mode > OPTLINES_STRICT_JOINED))
         fail("the mode is misjudged");
-    if (pass <= 6 && mode <= OPTLINES_STRICT && (number == OPTLINES_TOO_LONG) != (text.size > OPTLINES_TEXT))
+    if (pass <= 6 && mode <= OPTLINES_STRICT_JOINED && (number == OPTLINES_TOO_LONG) != (text.size > OPTLINES_TEXT))
         fail("the length of the text is misjudged");
 }
 

@@ -82,7 +82,12 @@ impl Room {
 /// One call in each mode in fresh lent buffers: what it answers, its result, and that memory is as
 /// said.
 fn expect(pass: usize, text: &[u8], short: usize, room: usize, want: Result<&[u8], Refusal>) {
-    for mode in [Mode::Plain, Mode::Strict] {
+    for mode in [
+        Mode::Plain,
+        Mode::Strict,
+        Mode::Joined,
+        Mode::StrictJoined,
+    ] {
         expect_in(mode, pass, text, short, room, want);
     }
 }
@@ -155,13 +160,46 @@ fn modes() {
         &b"r1 = \"http://x\";\n"[..],
     );
     let text = [sum, string].concat();
-    for (mode, left) in [(Mode::Plain, string), (Mode::Strict, sum)] {
+    for (mode, left) in [
+        (Mode::Plain, string),
+        (Mode::Strict, sum),
+        (Mode::Joined, string),
+        (Mode::StrictJoined, sum),
+    ] {
         assert_eq!(optimize(mode, &text).as_deref(), Ok(left), "{mode:?}");
         assert_eq!(run_pass(2, mode, &text).as_deref(), Ok(left), "{mode:?}");
         expect_in(mode, 0, &text, 0, 2 * TEXT, Ok(left));
         expect_in(mode, 2, &text, 0, 2 * TEXT, Ok(left));
     }
     assert_eq!(Mode::default(), Mode::Plain);
+}
+
+/// Below a template over lines a statement begins in joined mode alone; the sum of strings above it
+/// stays in strict mode alone.
+#[test]
+fn templates_over_lines() {
+    let sum = &b"r1 = \"a\" + f() + \"b\";\n"[..];
+    let raw = &b"  let r0;\nx = `{\n}`;\n  r0 = f();\n  use(r0);\n"[..];
+    let called = &b"  let r0;\nx = `{\n}`;\n  use(f());\n"[..];
+    let bound = &b"x = `{\n}`;\n  let r0 = f();\n  use(r0);\n"[..];
+    let tidy = &b"x = `{\n}`;\n  use(f());\n"[..];
+    for mode in [Mode::Plain, Mode::Strict] {
+        expect_in(mode, 4, raw, 0, 2 * TEXT, Ok(raw));
+        expect_in(mode, 6, raw, 0, 2 * TEXT, Ok(raw));
+    }
+    for mode in [Mode::Joined, Mode::StrictJoined] {
+        expect_in(mode, 4, raw, 0, 2 * TEXT, Ok(called));
+        expect_in(mode, 6, raw, 0, 2 * TEXT, Ok(bound));
+    }
+    for (mode, kept, rest) in [
+        (Mode::Plain, &b""[..], raw),
+        (Mode::Strict, sum, raw),
+        (Mode::Joined, &b""[..], tidy),
+        (Mode::StrictJoined, sum, tidy),
+    ] {
+        let (text, left) = ([sum, raw].concat(), [kept, rest].concat());
+        assert_eq!(optimize(mode, &text), Ok(left), "{mode:?}");
+    }
 }
 
 fn lines(n: usize) -> Vec<u8> {

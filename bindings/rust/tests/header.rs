@@ -33,10 +33,12 @@ fn every_define() {
         ("BLOCKS", BLOCKS),
         ("BRACKETS", BRACKETS),
         ("BYTES", BYTES),
+        ("JOINED", Mode::Joined as usize),
         ("LINES", LINES),
         ("PLAIN", Mode::Plain as usize),
         ("STACK", STACK),
         ("STRICT", Mode::Strict as usize),
+        ("STRICT_JOINED", Mode::StrictJoined as usize),
         ("TEXT", TEXT),
     ];
     assert_eq!(found, wanted);
