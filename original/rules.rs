@@ -346,7 +346,7 @@ pub const LITERAL_LINES: &[&str] = &[
     "let t0, t1;\nt0 = @;\nt1 = @;", "phi0 = @;", "let phi0;\nphi0 = @;",
 ];
 
-pub const OPEN: &[&str] = &["`", "\\", "/*", "*/", "/", "{", "}", ";", "\n", "\"", "a"];
+pub const OPEN: &[&str] = &["`", "\\", "/*", "*/", "/", "*", "{", "}", ";", "\n", "\"", "a"];
 /// A listing in which passes 4 and 6 ask for the blocks and the starts of statements below a text, `#`.
 pub const PLACED: &str = "  let r0;\n{\n  let r1;\n#\n  r1 = f();\n  use(r1);\n}\n  r0 = 1;\n";
 
