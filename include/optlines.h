@@ -29,12 +29,17 @@
  *     optlines_work, which has every buffer in it. optlines_optimize() runs all passes and
  *     optlines_run_pass() one, in buffers of the caller's own.
  *
- *     The mode says how passes 1, 2 and 3 judge a value; the others do the same in each.
+ *     The mode says how passes 1, 2 and 3 judge a value, and how passes 4 and 6 read the lines
+ *     around a statement; pass 5 does the same in each.
  *
  *         0 OPTLINES_PLAIN   as the original: "a" + f() + "b" counts as one string, and a store of
- *                            it goes, with its call, where nothing reads it
+ *                            it goes, with its call, where nothing reads it; each line is read by
+ *                            itself
  *         1 OPTLINES_STRICT  a value in quotes is a string only where its opening quote is closed
  *                            by its last character; what stands in quotes is no comment
+ *         2 OPTLINES_JOINED  a template in backticks and a block comment may run over lines: the
+ *                            braces in them open and close no block
+ *         3 OPTLINES_STRICT_JOINED  both
  *
  *     None of them allocates, keeps anything between calls, or reads or writes memory other than
  *     what is lent to it and its stack.
@@ -116,7 +121,7 @@
  *         0 OPTLINES_DONE            result and records are written        0
  *         1 OPTLINES_BAD_PASS        pass is not 1 to 6 (optlines_tidy:    0
  *                                    not 0 to 6; optlines_optimize: never)
- *        12 OPTLINES_BAD_MODE        mode is not 0 or 1                    0
+ *        12 OPTLINES_BAD_MODE        mode is not 0 to 3                    0
  *         2 OPTLINES_TOO_LONG        text is longer than 16,384 bytes      16384
  *         3 OPTLINES_SHORT_WORK      a to e or u is shorter than stated    0
  *         4 OPTLINES_NOT_UTF8        text is not UTF-8 (RFC 3629), and     first byte of the first
@@ -252,6 +257,8 @@ extern "C" {
 /* The modes. */
 #define OPTLINES_PLAIN 0
 #define OPTLINES_STRICT 1
+#define OPTLINES_JOINED 2
+#define OPTLINES_STRICT_JOINED 3
 
 /* Bytes of stack that are enough for a call. */
 #define OPTLINES_STACK 139264

@@ -133,6 +133,7 @@ fn number(function: u8, r: &mut Random, a: &[u8]) -> u64 {
             let lines = a.iter().filter(|b| **b == b'\n').count();
             r.below(lines + 2) as u64
         }
+        38 | 39 => r.below(4) as u64,
         _ => r.below(2) as u64,
     }
 }

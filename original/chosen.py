@@ -171,7 +171,7 @@ BY_HAND = {
     ],
     36: VALUES[:12],
     37: VALUES + QUOTED,
-    **{f: [(t, mode, "") for t in DROPS for mode in (0, 1)] for f in (38, 39)},
+    **{f: [(t, mode, "") for t in DROPS for mode in range(4)] for f in (38, 39)},
 }
 
 

@@ -1,7 +1,7 @@
 //! Says beforehand where the original would not end: `purity` copies each byte as a character, so
 //! text beyond ASCII doubles at each nested bracket.
 
-use crate::judge::PLAIN;
+use crate::judge::{BOTH, STRICT};
 use opt::exports::strip_comments;
 
 /// Copied characters that are still done in well under a second.
@@ -41,7 +41,7 @@ fn cost(mode: u8, value: &str) -> u64 {
     if value.is_ascii() || !value.contains('[') {
         return 0;
     }
-    let nested = if mode == PLAIN { rise(&strip_comments(value)) } else { brackets(value) };
+    let nested = if mode == STRICT || mode == BOTH { brackets(value) } else { rise(&strip_comments(value)) };
     doubled(beyond_ascii(value), 1 + nested)
 }
 

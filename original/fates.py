@@ -5,7 +5,7 @@ import sys
 
 from protocol import HERE, Texts
 
-MODES = {"": 0, "strict": 1}
+MODES = {"": 0, "strict": 1, "joined": 2, "strict joined": 3}
 ROOM = 32768
 GONE = 65535
 
@@ -14,7 +14,7 @@ class Case:
     """A case of the table: what it asks, and the records that the document has for it."""
 
     def __init__(self, words, rows):
-        which, mode, self.name = re.fullmatch(r"([0-6]) ?(strict|): (.+)", words).groups()
+        which, mode, self.name = re.fullmatch(r"([0-6]) ?(strict joined|strict|joined|): (.+)", words).groups()
         told = [re.fullmatch(r"([0-3]) (\d+|-) \|(.*)", row).groups() for row in rows]
         lines = "".join(line.replace("\\r", "\r") + "\n" for _, _, line in told)
         text = re.sub(r"\\\.\n$", "", lines).encode()

@@ -15,9 +15,12 @@ pub const FILLED: u8 = 165;
 /// The number of lent work buffers.
 pub const WORK: u8 = 6;
 
-/// The modes: the original as it is, and its copy in strict mode.
+/// The modes: the original as it is, and its copies in strict mode, in joined mode and in both.
 pub const PLAIN: u8 = 0;
 pub const STRICT: u8 = 1;
+pub const JOINED: u8 = 2;
+pub const BOTH: u8 = 3;
+pub const MODES: [u8; 4] = [PLAIN, STRICT, JOINED, BOTH];
 
 /// Not numbers of the table: the original would not end, the original panicked, and the copy that carries origins gave another text.
 pub const SKIPPED: u8 = 255;
@@ -78,7 +81,7 @@ fn accepted(asked: &Asked, work: u8) -> Result<&str, Refused> {
     if asked.pass > 6 {
         return Err((1, 0));
     }
-    if asked.mode > STRICT {
+    if !MODES.contains(&asked.mode) {
         return Err((12, 0));
     }
     if asked.text.len() > MOST_BYTES {
@@ -94,22 +97,30 @@ fn accepted(asked: &Asked, work: u8) -> Result<&str, Refused> {
     crowded_line(text).map_or(Ok(text), |line| Err((6, line)))
 }
 
-fn run(pass: u8, mode: u8, text: &str) -> String {
-    match (mode, pass) {
-        (PLAIN, 0) => opt::optimize(text),
-        (PLAIN, _) => opt::exports::one_pass(pass, text),
-        (_, 0) => strict::optimize(text),
-        _ => strict::exports::one_pass(pass, text),
+/// What one copy of the original does with a text: all passes, and the pass that is named.
+type Entries<T> = (fn(&str) -> T, fn(u8, &str) -> T);
+
+fn run<T>((whole, one_pass): Entries<T>, pass: u8, text: &str) -> T {
+    if pass == 0 { whole(text) } else { one_pass(pass, text) }
+}
+
+/// The copy for a mode.
+fn entries(mode: u8) -> Entries<String> {
+    match mode {
+        PLAIN => (opt::optimize, opt::exports::one_pass),
+        STRICT => (strict::optimize, strict::exports::one_pass),
+        JOINED => (joined::optimize, joined::exports::one_pass),
+        _ => (both::optimize, both::exports::one_pass),
     }
 }
 
-/// The same by a copy that carries origins, with the fate and the output line of each line.
-fn traced(pass: u8, mode: u8, text: &str) -> (String, Vec<(u8, u16)>) {
-    match (mode, pass) {
-        (PLAIN, 0) => carrying::carried::whole(text),
-        (PLAIN, _) => carrying::carried::one_pass(pass, text),
-        (_, 0) => strict_carrying::carried::whole(text),
-        _ => strict_carrying::carried::one_pass(pass, text),
+/// The copy for a mode that carries origins: it gives the fate and the output line of each line too.
+fn carrying_entries(mode: u8) -> Entries<(String, Vec<(u8, u16)>)> {
+    match mode {
+        PLAIN => (opt_carrying::carried::whole, opt_carrying::carried::one_pass),
+        STRICT => (strict_carrying::carried::whole, strict_carrying::carried::one_pass),
+        JOINED => (joined_carrying::carried::whole, joined_carrying::carried::one_pass),
+        _ => (both_carrying::carried::whole, both_carrying::carried::one_pass),
     }
 }
 
@@ -124,7 +135,7 @@ pub fn result(asked: &Asked, work: u8) -> Result<(&str, String), Refused> {
     if !ends::pass_ends(asked.pass, asked.mode, text) {
         return Err((SKIPPED, 0));
     }
-    Ok((text, caught(|| run(asked.pass, asked.mode, text))?))
+    Ok((text, caught(|| run(entries(asked.mode), asked.pass, text))?))
 }
 
 /// Document 02's request 1: the mark, the input line, the fate and the output line of each line.
@@ -148,7 +159,7 @@ fn written(asked: &Asked, manner: &Manner, records: &mut [u8]) -> Result<String,
         return Err((8, need));
     }
     if manner.records {
-        let (carried, fates) = caught(|| traced(asked.pass, asked.mode, text))?;
+        let (carried, fates) = caught(|| run(carrying_entries(asked.mode), asked.pass, text))?;
         if carried != result {
             return Err((CARRIED_OTHER, 0));
         }

@@ -4,7 +4,7 @@ mod ends;
 mod judge;
 mod wire;
 
-use judge::{PLAIN, STRICT};
+use judge::{BOTH, JOINED, PLAIN, STRICT};
 use opt::exports::{self, Parsed};
 use wire::Wire;
 
@@ -103,11 +103,17 @@ fn pass(pass: u8, q: &Asked) -> Bytes {
 
 /// The lines that the original drops, in the mode that the number is.
 fn drops(q: &Asked) -> Bytes {
-    match q.number {
-        0 if ends::pass_ends(2, PLAIN, q.a) => flags(exports::drops(&list(q.a))),
-        1 if ends::pass_ends(2, STRICT, q.a) => flags(strict::exports::drops(&list(q.a))),
-        _ => None,
+    let mode = q.number as u8;
+    if q.number > BOTH as usize || !ends::pass_ends(2, mode, q.a) {
+        return None;
     }
+    let drops = match mode {
+        PLAIN => exports::drops,
+        STRICT => strict::exports::drops,
+        JOINED => joined::exports::drops,
+        _ => both::exports::drops,
+    };
+    flags(drops(&list(q.a)))
 }
 
 /// The functions 1 to 39 and 41 to 46, 4 apart: it alone takes bytes that are no text.

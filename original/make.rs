@@ -11,7 +11,7 @@ mod rules;
 mod texts;
 mod wire;
 
-use judge::{Asked, MOST_LINES, MOST_RECORDS, MOST_ROOM, PLAIN, RECORD, STRICT, WORK};
+use judge::{Asked, MODES, MOST_LINES, MOST_RECORDS, MOST_ROOM, PLAIN, RECORD, WORK};
 use random::Random;
 use texts::{Alphabet, Texts};
 use wire::Wire;
@@ -21,6 +21,7 @@ enum Kind {
     LongListing,
     Special,
     Quotes,
+    Open,
     Soup,
     Damaged,
     Short,
@@ -35,13 +36,14 @@ enum Kind {
 
 /// How many of each hundred requests are of which kind.
 const MIX: &[(u64, Kind)] = &[
-    (25, Kind::Listing),
+    (22, Kind::Listing),
     (2, Kind::LongListing),
     (5, Kind::Special),
     (8, Kind::Quotes),
-    (12, Kind::Soup),
-    (14, Kind::Damaged),
-    (16, Kind::Short),
+    (9, Kind::Open),
+    (10, Kind::Soup),
+    (12, Kind::Damaged),
+    (14, Kind::Short),
     (1, Kind::Bytes),
     (1, Kind::Lines),
     (2, Kind::Brackets),
@@ -68,7 +70,7 @@ fn kind_of(index: u64) -> (&'static Kind, u64) {
 const SPARE: u32 = 3;
 
 /// Short texts go on where the seed before leaves off, where that one had some 100,000 requests.
-const SHORT_OF_A_SEED: u64 = 16_000;
+const SHORT_OF_A_SEED: u64 = 14_000;
 
 struct Maker {
     texts: Texts,
@@ -82,6 +84,7 @@ impl Maker {
             Kind::LongListing => t.long_listing(r),
             Kind::Special => t.special(r),
             Kind::Quotes => texts::quoted(r).into_bytes(),
+            Kind::Open => t.open(r),
             Kind::Soup => texts::soup(r, 40).into_bytes(),
             Kind::Damaged => {
                 let whole = t.listing(r, pass);
@@ -104,9 +107,10 @@ impl Maker {
         let (kind, before) = kind_of(index);
         let pass = match kind {
             Kind::Quotes => r.below(4) as u8, // no other pass judges values
+            Kind::Open => open_pass(r),
             _ => r.below(10).saturating_sub(3) as u8,
         };
-        let mode = r.below(2) as u8;
+        let mode = MODES[r.below(MODES.len())];
         let mut asked = in_room(pass, mode, self.text(kind, before, pass, r));
         match kind {
             Kind::Room => asked.room = near_room(r, &asked),
@@ -128,11 +132,16 @@ impl Maker {
                 3 => asked.text = texts::with_sequence(r, std::mem::take(&mut asked.text)),
                 4 => asked.text.extend_from_slice(&self.texts.at_most_lines(r)),
                 5 => asked.text.extend_from_slice(&self.texts.at_most_brackets(r)),
-                6 => asked.mode = *r.pick(&[&2, &3, &4, &255]),
+                6 => asked.mode = *r.pick(&[&4, &5, &128, &255]),
                 _ => asked.room = *r.pick(&[&0, &1, &32_769, &u32::MAX]),
             }
         }
     }
+}
+
+/// Most often one of the passes that clean lines, or the whole.
+fn open_pass(r: &mut Random) -> u8 {
+    *r.pick(&[&0, &0, &4, &4, &4, &6, &6, &6, &1, &2, &3, &5])
 }
 
 /// A result buffer of exactly the length, a little more or less, or none.
@@ -188,8 +197,18 @@ fn all_texts(wire: &mut Wire, alphabet: &Alphabet, tokens: u64, passes: &[u8]) -
     let count = (0..=tokens as u32).map(|n| (alphabet.tokens.len() as u64).pow(n)).sum();
     (0..count).try_for_each(|index| {
         let text = alphabet.text(index).into_bytes();
-        let asked = passes.iter().flat_map(|&pass| [(pass, PLAIN), (pass, STRICT)]);
-        asked.into_iter().try_for_each(|(pass, mode)| write(wire, &in_room(pass, mode, text.clone())))
+        let mut asked = passes.iter().flat_map(|&pass| MODES.map(|mode| (pass, mode)));
+        asked.try_for_each(|(pass, mode)| write(wire, &in_room(pass, mode, text.clone())))
+    })
+}
+
+/// Requests for texts with templates and comments over lines.
+fn open_texts(wire: &mut Wire, seed: u64, count: u64) -> Option<()> {
+    let texts = Texts::new();
+    (0..count).try_for_each(|index| {
+        let r = &mut Random::new(seed, index);
+        let (pass, mode) = (open_pass(r), MODES[r.below(MODES.len())]);
+        write(wire, &in_room(pass, mode, texts.open(r)))
     })
 }
 
@@ -203,8 +222,8 @@ fn cut_texts(wire: &mut Wire, seed: u64, count: u64) -> Option<()> {
     let texts = Texts::new();
     (0..count).try_for_each(|index| {
         let r = &mut Random::new(seed, index);
-        let (pass, mode) = (r.between(4, 6) as u8, r.below(2) as u8);
-        let (text, at) = cuts::cut_text(&texts, r, pass);
+        let (pass, mode) = (r.between(4, 6) as u8, MODES[r.below(MODES.len())]);
+        let (text, at) = cuts::cut_text(&texts, r, pass, mode);
         for part in [&text[..], &text[..at], &text[at..]] {
             write(wire, &in_room(pass, mode, part.into()))?;
         }
@@ -213,7 +232,7 @@ fn cut_texts(wire: &mut Wire, seed: u64, count: u64) -> Option<()> {
 }
 
 fn number(word: Option<&String>) -> u64 {
-    let usage = "make SEED COUNT | make leaves SEED COUNT [FUNCTION..] | make all ALPHABET TOKENS [PASS..] | make flaws SEED COUNT | make flaws all BYTES | make cuts SEED COUNT";
+    let usage = "make SEED COUNT | make leaves SEED COUNT [FUNCTION..] | make all ALPHABET TOKENS [PASS..] | make open SEED COUNT | make flaws SEED COUNT | make flaws all BYTES | make cuts SEED COUNT";
     word.and_then(|w| w.parse().ok()).unwrap_or_else(|| wire::usage(usage))
 }
 
@@ -235,11 +254,12 @@ fn main() {
             let (seed, count) = (number(words.get(1)), number(words.get(2)));
             flaws(&mut wire, (0..count).map(|index| texts::flawed(&mut Random::new(seed, index))))
         }
+        Some("open") => open_texts(&mut wire, number(words.get(1)), number(words.get(2))),
         Some("cuts") => cut_texts(&mut wire, number(words.get(1)), number(words.get(2))),
         Some("all") => {
             let passes = if words.len() > 3 { numbers(&words) } else { (0..=6).collect() };
             let named = words.get(1).and_then(|name| Alphabet::of(name));
-            let alphabet = named.unwrap_or_else(|| wire::usage("alphabets: characters, words, lines, quotes"));
+            let alphabet = named.unwrap_or_else(|| wire::usage("alphabets: characters, words, lines, quotes, open"));
             all_texts(&mut wire, alphabet, number(words.get(2)), &passes)
         }
         _ => requests(&mut wire, number(words.first()), number(words.get(1))),

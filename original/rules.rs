@@ -313,8 +313,8 @@ pub const TOKENS: &[&str] = &[
     "r0 = ", "r1 = r0;", "use(r0);", "let r0, r1;", "phi0 = r0;", "let t0;", "t0 = 1;",
 ];
 
-/// Four small alphabets, of which all short texts are made in turn. Those of QUOTES are values: quotes, escapes, comment marks, brackets
-/// and calls, by which the modes part.
+/// Five small alphabets, of which all short texts are made in turn. Those of QUOTES are values: quotes, escapes, comment marks, brackets
+/// and calls, by which strict mode parts from plain mode. Those of OPEN stand among lines: what opens and closes a template and a comment.
 pub const CHARACTERS: &[&str] = &[
     "a", "r", "0", "=", ";", " ", "\n", "\r", "/", "*", "\"", "[", "]", ",", "{", "}", "(", ".", "-", "\\", "\u{3000}",
 ];
@@ -344,4 +344,32 @@ pub const LITERAL_VALUES: &[&str] = &[
 pub const LITERAL_LINES: &[&str] = &[
     "r0 = @;", "r0 = @;\nuse(r0);", "r0 = @;\nuse(r0);", "r0 = @;\nr0 = @;\nuse(r0);", "r0 = @;\nphi0 = [r0, @];", "r0 = @;\nr1 = r0;\nuse(r1);", "let t0;\nt0 = @;",
     "let t0, t1;\nt0 = @;\nt1 = @;", "phi0 = @;", "let phi0;\nphi0 = @;",
+];
+
+pub const OPEN: &[&str] = &["`", "\\", "/*", "*/", "/", "*", "{", "}", ";", "\n", "\"", "a"];
+/// A listing in which passes 4 and 6 ask for the blocks and the starts of statements below a text, `#`.
+pub const PLACED: &str = "  let r0;\n{\n  let r1;\n#\n  r1 = f();\n  use(r1);\n}\n  r0 = 1;\n";
+
+/// Pieces of lines about templates and block comments; lines of which some leave one open or close one, `#` being some of these pieces.
+pub const OPEN_PIECES: &[&str] = &[
+    "`", "`", "`", "`", "${", "}", "{", "}", "{", "/*", "/*", "*/", "*/", "*", "/", "/", " / 2", "//", "\\", "\\`", "\\\\", "\"", "'", ";", ";", ";",
+    " ", " ", "a", "x = ", "(", ")", "[", "]", "S", ":", "é", "\u{3000}", "r0", "f()", "/`/", "/[`", "return ",
+];
+pub const OPEN_LINES: &[&str] = &[
+    "x = `#", "x = `a", "  <b>{#</b>", "#", "#", "#;", "`#`", "`#`;", "#`;", "`;", "`", "}`;", "{`", "` + b;", "` / 2; # / 3;", "`/#/;", "`}", "`{", "` //", "` /*",
+    "`\\", "`\\`", "`\\\\`;", "\\", "${", "${`", "`}`", "`${`{`}`;", "x = `a` + `b", "` + `", "`; x = `",
+    "/* #", "/*", "/*/", "/**", "/* {", "x; /*", "x /* #", "*/", "*/ #", "# */", "#*/;", "**/", "*", "/", "/ {", "*/ /*", "*/ `", "` */", "*//", "*/ / 2; } x / 3;",
+    "// `", "// /*", "\"`", "'`", "\"/*", "'#", "\"#\";", "return /`/;", "return /#/;", "x = /`/;", "x = /[`]/;", "x = a / `", "/`", "x = /\\`",
+    "function f(a) {", "var x;", "let r0;", "class C {", "  let r0;", "  let r1;", "  let r0, r1;", "  let r0, r1, r2;", "{", "}", "{", "}", "} else {", "if (x)", "if (x) {", "a:", "",
+    "  r0 = 1;", "  r0 = 1;", "  r1 = 2;", "  r0 = f();", "  r1 = g(r0);", "  use(r0);", "  use(r1, r0);", "  r0.m(r1);", "  r0 = `#;", "  r0 = `#`;", "  r1 = f(`#", "`);",
+    "  r0 = 1; /* #", "  r0 = f(); //`", "  r1 = /*;", "  use(r0, `", "  use(r0); /*", "*/ use(r0);", "`; use(r0);", "phi0 = `#;", "let t0;", "t0 = `#;",
+    "__runtime.DeclareGlobals(`#", "__runtime.DeclareGlobals(1); /*",
+];
+/// Listings around such lines, `@`. Most have registers of their own, so that these lines hide less of what becomes of them.
+pub const OPEN_FRAMES: &[&str] = &[
+    "@", "@@", "  let r5;\n@  r5 = 1;\n", "  let r5;\n@@  r5 = f();\n  use(r5);\n", "  let r5, r6;\n@  r5 = f();\n@  r6 = g(r5);\n  use(r6);\n",
+    "  let r5;\n{\n  let r6;\n@  r6 = f();\n  use(r6);\n}\n  r5 = 1;\n", "  r5 = f();\n@  use(r5);\n", "@  r5 = f();\n  use(r5);\n@",
+    "function f(a) {\n  let r5, r6;\n@  r5 = a;\n@  r6 = g(r5);\n  return h(r6);\n}\n", "{\n  let r5;\n@  r5 = 1;\n}\n", "  let r0;\n@@@  r0 = 1;\n@",
+    "  let r5;\nx = `a {\n@`;\n  r5 = f();\n  use(r5);\n", "  let r5;\nx; /* {\n@*/\n  r5 = f();\n  use(r5);\n", "@  r5 = f(`{\n@`);\n  use(r5);\n",
+    "  r5 = f(`{;\n  use(r5, `});\n@", "  r5 = f(); /* {;\n  use(r5); // */ }\n@",
 ];

@@ -4,7 +4,8 @@ use crate::grammar::Grammar;
 use crate::judge::{MOST_BRACKETS, MOST_BYTES, MOST_LINES};
 use crate::numbers;
 use crate::random::Random;
-use crate::rules::{CHARACTERS, JUDGED, LINES, LITERALS, LITERAL_LINES, LITERAL_VALUES, QUOTES, TOKENS, WORDS};
+use crate::rules::{CHARACTERS, JUDGED, LINES, LITERALS, LITERAL_LINES, LITERAL_VALUES, OPEN, OPEN_FRAMES, OPEN_LINES, OPEN_PIECES};
+use crate::rules::{PLACED, QUOTES, TOKENS, WORDS};
 
 /// Each class of bytes that RFC 3629 forbids, with what is allowed next to it.
 const SEQUENCES: &[&[u8]] = &[
@@ -99,18 +100,19 @@ pub fn soup(random: &mut Random, tokens: usize) -> String {
     (0..random.between(1, tokens)).map(|_| random.pick(TOKENS)).collect()
 }
 
-/// A small alphabet, by its name: its texts are listings, or the values of one.
+/// A small alphabet, by its name: its texts are put into a listing in the place of each `#`.
 pub struct Alphabet {
     name: &'static str,
     pub tokens: &'static [&'static str],
-    are_values: bool,
+    listing: &'static str,
 }
 
-const ALPHABETS: [Alphabet; 4] = [
-    Alphabet { name: "characters", tokens: CHARACTERS, are_values: false },
-    Alphabet { name: "words", tokens: WORDS, are_values: false },
-    Alphabet { name: "lines", tokens: LINES, are_values: false },
-    Alphabet { name: "quotes", tokens: QUOTES, are_values: true },
+const ALPHABETS: [Alphabet; 5] = [
+    Alphabet { name: "characters", tokens: CHARACTERS, listing: "#" },
+    Alphabet { name: "words", tokens: WORDS, listing: "#" },
+    Alphabet { name: "lines", tokens: LINES, listing: "#" },
+    Alphabet { name: "quotes", tokens: QUOTES, listing: JUDGED },
+    Alphabet { name: "open", tokens: OPEN, listing: PLACED },
 ];
 
 impl Alphabet {
@@ -120,8 +122,7 @@ impl Alphabet {
 
     /// The text of that number: the shortest first, none left out.
     pub fn text(&self, number: u64) -> String {
-        let text = counted(self.tokens, number);
-        if self.are_values { JUDGED.replace('#', &text) } else { text }
+        self.listing.replace('#', &counted(self.tokens, number))
     }
 }
 
@@ -155,6 +156,19 @@ pub fn quoted(random: &mut Random) -> String {
         filled(r, shape, '@', quoted_value) + "\n"
     };
     (0..random.between(1, 4)).map(|_| line(random)).collect()
+}
+
+fn open_pieces(random: &mut Random) -> String {
+    (0..random.below(6)).map(|_| random.pick(OPEN_PIECES)).collect()
+}
+
+/// Some lines of which one may leave a template or a comment open to the next.
+fn open_lines(random: &mut Random) -> String {
+    let line = |r: &mut Random| {
+        let shape = r.pick(OPEN_LINES);
+        filled(r, shape, '#', open_pieces) + "\n"
+    };
+    (0..random.below(5)).map(|_| line(random)).collect()
 }
 
 /// The text of that number over an alphabet: the shortest first, none left out.
@@ -308,6 +322,19 @@ impl Texts {
             0 => above + &middle,
             1 => middle + &above,
             _ => middle,
+        };
+        self.weathered(random, text)
+    }
+
+    /// A listing in which templates and comments run over lines, or a listing of another kind with such lines put into it.
+    pub fn open(&self, random: &mut Random) -> Vec<u8> {
+        let text = if random.chance(75) {
+            let frame = random.pick(OPEN_FRAMES);
+            filled(random, frame, '@', open_lines)
+        } else {
+            let rules = random.pick(&[&FOR_PASS[0], &FOR_PASS[4], &FOR_PASS[6]]);
+            let whole = self.grammar.fragments(random, rules, 4, 300);
+            whole.split_inclusive('\n').map(|l| if random.chance(30) { l.to_string() + &open_lines(random) } else { l.to_string() }).collect()
         };
         self.weathered(random, text)
     }

@@ -3,7 +3,7 @@
     import optlines
     tidy = optlines.optimize(text)      # all passes over bytes
     tidy = optlines.run_pass(5, text)   # one pass, 1 to 6
-    tidy = optlines.optimize(text, optlines.STRICT)     # in strict mode
+    tidy = optlines.optimize(text, optlines.STRICT)     # in strict mode; JOINED, STRICT_JOINED
     tidy.text       # the result, bytes
     tidy.records    # where each line went: a list of Record(line, fate, output)
     tidy.origins    # the same records as bytes, a record file of the form OL
@@ -31,8 +31,8 @@ RECORDS = RECORD * LINES  # the bytes of a record buffer that is long enough for
 NO_LINE = 65535  # the line of the result that a record of a gone line has
 STACK = 139264  # bytes of stack that are enough for a call, as far as it was measured
 
-# The modes: how passes 1, 2 and 3 judge a value.
-(PLAIN, STRICT) = range(2)
+# The modes: how passes 1, 2 and 3 judge a value, and how 4 and 6 read the lines around a statement.
+(PLAIN, STRICT, JOINED, STRICT_JOINED) = range(4)
 
 # The numbers of include/optlines.h.
 (DONE, BAD_PASS, TOO_LONG, SHORT_WORK, NOT_UTF8, TOO_MANY_LINES, CROWDED, SHORT_RESULT,
@@ -53,7 +53,7 @@ _WORDS = {
     CUT: "the text was cut: it ends within the character at byte {place}, counted from 0",
     OVERLONG: "the text has an overlong form: see byte {place}, counted from 0",
     OUTSIDE: "the text has a surrogate or a value above U+10FFFF: see byte {place}, counted from 0",
-    BAD_MODE: "there is no such mode: they are 0 and 1",
+    BAD_MODE: "there is no such mode: they are 0 to 3",
 }
 _UNKNOWN = "refused with number {number} and place {place}, unknown to this module"
 _SONAME = "liboptlines.so.3"

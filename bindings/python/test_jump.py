@@ -33,7 +33,7 @@ class Jump(unittest.TestCase):
         with open(SAMPLE + ".txt", "rb") as sample, open(SAMPLE + ".ol", "rb") as origins:
             text = sample.read()
             self.assertEqual(optlines.optimize(text).origins, origins.read())
-        for mode in (optlines.PLAIN, optlines.STRICT):
+        for mode in (optlines.PLAIN, optlines.STRICT, optlines.JOINED, optlines.STRICT_JOINED):
             self.agrees(optlines.optimize(text, mode))
             for number in range(1, 7):
                 self.agrees(optlines.run_pass(number, text, mode))

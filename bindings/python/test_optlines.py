@@ -140,7 +140,24 @@ class Calls(unittest.TestCase):
         phis = b'phi0 = "a" + f() + "b";\nphi1 = ["http://x"];\n'
         self.becomes(3, phis, b'["http://x"];\n', "3- 10", mode=o.PLAIN)
         self.becomes(3, phis, b'"a" + f() + "b";\n', "10 3-", mode=o.STRICT)
-        self.becomes(0, SAMPLE, TIDY, ORIGINS, mode=o.STRICT)
+        for mode in (o.STRICT, o.JOINED, o.STRICT_JOINED):
+            self.becomes(0, SAMPLE, TIDY, ORIGINS, mode=mode)
+
+    def test_templates_over_lines(self):
+        kept, raw = b'r1 = "a" + f() + "b";\n', b"  let r0;\nx = `{\n}`;\n  r0 = f();\n  use(r0);\n"
+        called = b"  let r0;\nx = `{\n}`;\n  use(f());\n"
+        bound = b"x = `{\n}`;\n  let r0 = f();\n  use(r0);\n"
+        tidy = b"x = `{\n}`;\n  use(f());\n"
+        for mode in (o.PLAIN, o.STRICT):
+            self.becomes(4, raw, raw, 5, mode=mode)
+            self.becomes(6, raw, raw, 5, mode=mode)
+        for mode in (o.JOINED, o.STRICT_JOINED):
+            self.becomes(4, raw, called, "00 01 02 23 13", mode=mode)
+            self.becomes(6, raw, bound, "3- 00 01 12 03", mode=mode)
+        self.becomes(0, kept + raw, raw, "3- 00 01 02 03 04", mode=o.PLAIN)
+        self.becomes(0, kept + raw, kept + raw, 6, mode=o.STRICT)
+        self.becomes(0, kept + raw, tidy, "3- 3- 00 01 22 12", mode=o.JOINED)
+        self.becomes(0, kept + raw, kept + tidy, "00 3- 01 02 23 13", mode=o.STRICT_JOINED)
 
     def test_limits(self):
         self.becomes(0, b"x" * o.TEXT, b"x" * o.TEXT, 1)
@@ -165,7 +182,7 @@ class Calls(unittest.TestCase):
                 (b"r0 = x;\nphi1 = f(r0);\n", b"f(x);\n", "20 10")):
             need = o.RECORD * len(said(origins))
             self.assertEqual(o.record_bytes(text), need)
-            for mode in (o.PLAIN, o.STRICT):
+            for mode in (o.PLAIN, o.STRICT, o.JOINED, o.STRICT_JOINED):
                 self.becomes(0, text, result, origins, records=need, mode=mode)
                 for number in range(7):
                     for lent in (need - 1, 0):
@@ -180,8 +197,8 @@ class Calls(unittest.TestCase):
         bad = b"\xff" * (o.TEXT + 1)
         self.refused(7, SAMPLE, o.BAD_PASS, 0)
         self.refused(2**64 - 1, SAMPLE, o.BAD_PASS, 0)
-        self.refused(7, bad, o.BAD_PASS, 0, shorter=1, room=0, records=0, mode=2)
-        for mode in (2, 2**64 - 1, 2**64, -1):
+        self.refused(7, bad, o.BAD_PASS, 0, shorter=1, room=0, records=0, mode=4)
+        for mode in (4, 5, 2**64 - 1, 2**64, -1):
             self.refused(0, SAMPLE, o.BAD_MODE, 0, mode=mode)
             self.refused(0, bad, o.BAD_MODE, 0, shorter=1, room=0, records=0, mode=mode)
             self.refused(6, bad, o.BAD_MODE, 0, shorter=1, room=0, records=0, mode=mode)
@@ -246,8 +263,8 @@ class Module(unittest.TestCase):
         no_pass = "there is no such pass: they are 1 to 6"
         for number in (0, 7, -1, 2**64 - 1, 2**64 + 1):
             self.raises(o.BAD_PASS, 0, no_pass, o.run_pass, number, SAMPLE)
-        no_mode = "there is no such mode: they are 0 and 1"
-        for mode in (2, -1, 2**64):
+        no_mode = "there is no such mode: they are 0 to 3"
+        for mode in (4, -1, 2**64):
             self.raises(o.BAD_MODE, 0, no_mode, o.optimize, SAMPLE, mode)
             self.raises(o.BAD_MODE, 0, no_mode, o.run_pass, 6, SAMPLE, mode)
         long, many = b"x" * (o.TEXT + 1), b"\n" * (o.LINES + 1)
@@ -321,8 +338,8 @@ class Header(unittest.TestCase):
     def test_defines(self):
         found = re.findall(r"^#define OPTLINES_(\w+) (.+)$", self.text, re.M)
         self.assertEqual(sorted(name for name, _ in found),
-                         ["BLOCKS", "BRACKETS", "BYTES", "LINES", "NO_LINE", "PLAIN", "RECORD",
-                          "RECORDS", "STACK", "STRICT", "TEXT"])
+                         ["BLOCKS", "BRACKETS", "BYTES", "JOINED", "LINES", "NO_LINE", "PLAIN", "RECORD",
+                          "RECORDS", "STACK", "STRICT", "STRICT_JOINED", "TEXT"])
         for name, value in found:
             self.assertEqual(getattr(o, name), int(value), name)
 

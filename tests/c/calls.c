@@ -199,6 +199,28 @@ static const char temps[] = "let t0, t1;\nt0 = \"a\" + f() + \"b\";\nt1 = \"http
 static const char registers[] = "r0 = \"a\" + f() + \"b\";\nr1 = \"http://x\";\n";
 static const char phis[] = "phi0 = \"a\" + f() + \"b\";\nphi1 = [\"http://x\"];\n";
 
+/* A template over two lines, with braces in it, above a store and a call; with the sum of strings above it. */
+static const char over[] = "  let r0;\nx = `{\n}`;\n  r0 = f();\n  use(r0);\n";
+static const char all_over[] = "r1 = \"a\" + f() + \"b\";\n  let r0;\nx = `{\n}`;\n  r0 = f();\n  use(r0);\n";
+
+static void joined_modes(void)
+{
+    static const char called[] = "  let r0;\nx = `{\n}`;\n  use(f());\n", bound[] = "x = `{\n}`;\n  let r0 = f();\n  use(r0);\n";
+    becomes_in("pass 4, plain", OPTLINES_PLAIN, 4, over, over, KEPT);
+    becomes_in("pass 4, strict", OPTLINES_STRICT, 4, over, over, KEPT);
+    becomes_in("pass 4, joined", OPTLINES_JOINED, 4, over, called, "00 01 02 23 13");
+    becomes_in("pass 4, both", OPTLINES_STRICT_JOINED, 4, over, called, "00 01 02 23 13");
+    becomes_in("pass 6, plain", OPTLINES_PLAIN, 6, over, over, KEPT);
+    becomes_in("pass 6, strict", OPTLINES_STRICT, 6, over, over, KEPT);
+    becomes_in("pass 6, joined", OPTLINES_JOINED, 6, over, bound, "3- 00 01 12 03");
+    becomes_in("pass 6, both", OPTLINES_STRICT_JOINED, 6, over, bound, "3- 00 01 12 03");
+    becomes_in("a sum and a template, plain", OPTLINES_PLAIN, 0, all_over, over, "3- 00 01 02 03 04");
+    becomes_in("a sum and a template, strict", OPTLINES_STRICT, 0, all_over, all_over, KEPT);
+    becomes_in("a sum and a template, joined", OPTLINES_JOINED, 0, all_over, "x = `{\n}`;\n  use(f());\n", "3- 3- 00 01 22 12");
+    becomes_in("a sum and a template, both", OPTLINES_STRICT_JOINED, 0, all_over, "r1 = \"a\" + f() + \"b\";\nx = `{\n}`;\n  use(f());\n",
+        "00 3- 01 02 23 13");
+}
+
 static void modes(void)
 {
     becomes_in("pass 1, plain", OPTLINES_PLAIN, 1, temps, "let t0, t1;\nt1 = \"http://x\";\n", "00 3- 01");
@@ -209,7 +231,8 @@ static void modes(void)
     becomes_in("pass 3, strict", OPTLINES_STRICT, 3, phis, "\"a\" + f() + \"b\";\n", "10 3-");
     becomes_in("all passes, plain", OPTLINES_PLAIN, 0, registers, "r1 = \"http://x\";\n", "3- 00");
     becomes_in("all passes, strict", OPTLINES_STRICT, 0, registers, "r0 = \"a\" + f() + \"b\";\n", "00 3-");
-    becomes_in("the sample, strict", OPTLINES_STRICT, 0, sample, tidy, origins);
+    for (size_t mode = OPTLINES_PLAIN; mode <= OPTLINES_STRICT_JOINED; mode++)
+        becomes_in("the sample, in each mode", mode, 0, sample, tidy, origins);
     for (size_t pass = 4; pass <= 6; pass++)
         becomes_in("a pass that judges no value", OPTLINES_STRICT, pass, registers, registers, KEPT);
 }
@@ -249,7 +272,7 @@ static void limits(void)
 /* A record buffer of just the length, one byte short and of no bytes, for each entry and mode. */
 static void short_records(const char *name, const char *text, size_t lines, const char *result, const char *records)
 {
-    for (size_t mode = OPTLINES_PLAIN; mode <= OPTLINES_STRICT; mode++) {
+    for (size_t mode = OPTLINES_PLAIN; mode <= OPTLINES_STRICT_JOINED; mode++) {
         struct call q = text_in(mode, 0, text);
         q.records = 7 * lines;
         done(name, q, result, strlen(result), records);
@@ -290,11 +313,11 @@ static void records(void)
 
 static void order(void)
 {
-    struct call q = { 7, (const uint8_t *)full, OPTLINES_TEXT + 1, 1, 0, 2, 0 };
+    struct call q = { 7, (const uint8_t *)full, OPTLINES_TEXT + 1, 1, 0, 4, 0 };
     refused("pass 7", text_of(7, sample), OPTLINES_BAD_PASS, 0);
     refused("the largest number as a pass", text_of((size_t)-1, sample), OPTLINES_BAD_PASS, 0);
-    refused("mode 2", text_in(2, 0, sample), OPTLINES_BAD_MODE, 0);
-    refused("mode 2 of one pass", text_in(2, 1, sample), OPTLINES_BAD_MODE, 0);
+    refused("mode 4", text_in(4, 0, sample), OPTLINES_BAD_MODE, 0);
+    refused("mode 4 of one pass", text_in(4, 1, sample), OPTLINES_BAD_MODE, 0);
     refused("the largest number as a mode", text_in((size_t)-1, 6, sample), OPTLINES_BAD_MODE, 0);
     memset(full, 0xFF, sizeof full);
     refused("1 before 12, 2 and 3", q, OPTLINES_BAD_PASS, 0);
@@ -343,8 +366,10 @@ static void nulls(void)
 #define NOTHING NULL, 0, NULL, 0, NULL, 0, NULL, 0, NULL, 0, NULL, 0, NULL, 0, NULL, 0, NULL, 0, &r.length, &r.place
     r.number = optlines_optimize(OPTLINES_PLAIN, NOTHING);
     answered("nothing lent", r, OPTLINES_SHORT_WORK);
-    r.number = optlines_optimize(2, NOTHING);
-    answered("nothing lent, mode 2", r, OPTLINES_BAD_MODE);
+    r.number = optlines_optimize(OPTLINES_STRICT_JOINED, NOTHING);
+    answered("nothing lent, mode 3", r, OPTLINES_SHORT_WORK);
+    r.number = optlines_optimize(4, NOTHING);
+    answered("nothing lent, mode 4", r, OPTLINES_BAD_MODE);
     r.number = optlines_run_pass(0, 2, NOTHING);
     answered("pass 0", r, OPTLINES_BAD_PASS);
 #undef NOTHING
@@ -358,6 +383,7 @@ int main(void)
 {
     results();
     modes();
+    joined_modes();
     limits();
     records();
     order();

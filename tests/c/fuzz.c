@@ -18,7 +18,7 @@ enum { PASS, MODE, SHORTER, ROOM_OF, ROOM_TIMES, RECORDS_OF, HEAD };
 /* What RECORDS_OF says of the record buffer: room for all texts, just enough, one byte less; else so many times 33 bytes. */
 enum { ALL_RECORDS = 255, JUST_RECORDS = 254, LESS_RECORDS = 253, SOME_RECORDS = 33 };
 /* Passes and modes that are asked for: those that there are, and some that there are not. */
-enum { PASSES = 9, MODES = 4 };
+enum { PASSES = 9, MODES = 6 };
 
 /* A lent buffer: as many bytes, at the end of its pages. */
 struct lent {
@@ -125,9 +125,9 @@ static void judge(uint8_t pass, uint8_t mode, uint8_t number, size_t length, siz
         fail("a length that cannot be");
     if ((number == OPTLINES_BAD_PASS) != (pass > 6))
         fail("the pass is misjudged");
-    if (pass <= 6 && (number == OPTLINES_BAD_MODE) != (mode > OPTLINES_STRICT))
+    if (pass <= 6 && (number == OPTLINES_BAD_MODE) != (mode > OPTLINES_STRICT_JOINED))
         fail("the mode is misjudged");
-    if (pass <= 6 && mode <= OPTLINES_STRICT && (number == OPTLINES_TOO_LONG) != (text.size > OPTLINES_TEXT))
+    if (pass <= 6 && mode <= OPTLINES_STRICT_JOINED && (number == OPTLINES_TOO_LONG) != (text.size > OPTLINES_TEXT))
         fail("the length of the text is misjudged");
 }
 

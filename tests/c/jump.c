@@ -63,9 +63,9 @@ int main(void)
     size_t length = fread(text, 1, sizeof text, stdin);
     if (ferror(stdin))
         return 2;
-    for (size_t call = 0; call < 14; call++) {
+    for (size_t call = 0; call < 28; call++) {
         calls++;
-        if (optlines_tidy(&work, call / 2, call % 2, text, length) != OPTLINES_DONE)
+        if (optlines_tidy(&work, call / 4, call % 4, text, length) != OPTLINES_DONE)
             fail("refused", work.place);
         read_records(work.orig, OPTLINES_RECORD * work.records);
         jump(work.orig, OPTLINES_RECORD * work.records);

@@ -23,7 +23,7 @@
 #include <unistd.h>
 
 enum { STACK = 1 << 20, STRIDE = 4096, PAINT = 0x5A, KNOWN = 65536 };
-enum { PASSES = 7, MODES = 2, PROBE = PASSES, LONGEST = OPTLINES_TEXT + 1 };
+enum { PASSES = 7, MODES = 4, PROBE = PASSES, LONGEST = OPTLINES_TEXT + 1 };
 
 static uint8_t *stack; /* its lowest byte */
 static uint8_t paint[STRIDE];

@@ -121,16 +121,21 @@ static void modes(void)
 {
     static const char text[] = "r0 = \"a\" + f() + \"b\";\nr1 = \"http://x\";\n";
     static const char plain[] = "r1 = \"http://x\";\n", strict[] = "r0 = \"a\" + f() + \"b\";\n";
+    static const char over[] = "x = `{\n}`;\nr0 = f();\nuse(r0);\n", called[] = "x = `{\n}`;\nuse(f());\n";
     size_t length = strlen(text);
     becomes_in("plain", OPTLINES_PLAIN, 0, text, plain, "3- 00");
     becomes_in("strict", OPTLINES_STRICT, 0, text, strict, "00 3-");
     becomes_in("pass 2, plain", OPTLINES_PLAIN, 2, text, plain, "3- 00");
     becomes_in("pass 2, strict", OPTLINES_STRICT, 2, text, strict, "00 3-");
-    expect_in("mode 2", 2, 0, text, length, OPTLINES_BAD_MODE, 0, "", "");
-    expect_in("mode 2 of a pass", 2, 2, text, length, OPTLINES_BAD_MODE, 0, "", "");
+    becomes_in("joined", OPTLINES_JOINED, 0, text, plain, "3- 00");
+    becomes_in("both", OPTLINES_STRICT_JOINED, 0, text, strict, "00 3-");
+    becomes_in("pass 4, plain", OPTLINES_PLAIN, 4, over, over, "00 01 02 03");
+    becomes_in("pass 4, joined", OPTLINES_JOINED, 4, over, called, "00 01 22 12");
+    expect_in("mode 4", 4, 0, text, length, OPTLINES_BAD_MODE, 0, "", "");
+    expect_in("mode 4 of a pass", 4, 2, text, length, OPTLINES_BAD_MODE, 0, "", "");
     expect_in("the largest mode", (size_t)-1, 0, text, length, OPTLINES_BAD_MODE, 0, "", "");
-    expect_in("pass 7 in mode 2", 2, 7, text, length, OPTLINES_BAD_PASS, 0, "", "");
-    expect_in("a byte that is not UTF-8, in mode 2", 2, 0, "\xFF", 1, OPTLINES_BAD_MODE, 0, "", "");
+    expect_in("pass 7 in mode 4", 4, 7, text, length, OPTLINES_BAD_PASS, 0, "", "");
+    expect_in("a byte that is not UTF-8, in mode 4", 4, 0, "\xFF", 1, OPTLINES_BAD_MODE, 0, "", "");
 }
 
 static void refusals(void)
@@ -178,7 +183,7 @@ static void at(const char *name, uintptr_t address, size_t text_length, int over
     memcpy(&before, &work, sizeof work);
     before.length = before.records = before.place = 0;
     calls++;
-    number = optlines_tidy(&work, 7, 2, (const uint8_t *)address, text_length);
+    number = optlines_tidy(&work, 7, 4, (const uint8_t *)address, text_length);
     if (number != (overlaps ? OPTLINES_OVERLAP : OPTLINES_BAD_PASS))
         fail(name, "another number");
     if (memcmp(&before, &work, sizeof work) != 0)

@@ -38,7 +38,7 @@ pub const RECORDS: usize = RECORD * LINES;
 /// Bytes of stack that are enough for a call, as far as it was measured.
 pub const STACK: usize = 139_264;
 
-/// How passes 1, 2 and 3 judge a value; the others do the same in each mode.
+/// How passes 1, 2 and 3 judge a value, and how passes 4 and 6 read the lines around a statement.
 #[derive(Clone, Copy, Debug, Default, PartialEq, Eq)]
 #[non_exhaustive]
 pub enum Mode {
@@ -48,6 +48,11 @@ pub enum Mode {
     /// A value in quotes is a string only where its opening quote is closed by its last character;
     /// what stands in quotes is no comment.
     Strict = 1,
+    /// A template in backticks and a block comment may run over lines: the braces in them open and
+    /// close no block.
+    Joined = 2,
+    /// Both.
+    StrictJoined = 3,
 }
 
 /// What became of a line of the text.
@@ -240,7 +245,7 @@ impl fmt::Display for Refusal {
                     "the text has a surrogate or a value above U+10FFFF: see byte {at}, counted from 0"
                 )
             }
-            Refusal::BadMode => write!(f, "there is no such mode: they are 0 and 1"),
+            Refusal::BadMode => write!(f, "there is no such mode: they are 0 to 3"),
             Refusal::Other { number, place } => {
                 write!(
                     f,
@@ -464,7 +469,7 @@ mod tests {
     #[test]
     fn modes_that_are_not_there() {
         let bad: &[u8] = b"\xFF";
-        for mode in [2, 3, usize::MAX] {
+        for mode in [4, 5, usize::MAX] {
             let whole = with_room(bad, |work, out, orig| {
                 call!(optlines_optimize(mode), bad, work, out, orig)
             });
@@ -478,7 +483,7 @@ mod tests {
         }
         assert_eq!(
             Refusal::BadMode.to_string(),
-            "there is no such mode: they are 0 and 1"
+            "there is no such mode: they are 0 to 3"
         );
     }
 }

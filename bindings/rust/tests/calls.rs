@@ -148,7 +148,7 @@ impl Room {
 /// One call in each mode in fresh lent buffers: what it answers, its result, its records, and that
 /// memory is as said.
 fn expect(call: Call, want: Result<(&[u8], &[Record]), Refusal>) {
-    for mode in [Mode::Plain, Mode::Strict] {
+    for mode in [Mode::Plain, Mode::Strict, Mode::Joined, Mode::StrictJoined] {
         expect_in(mode, call, want);
     }
 }
@@ -235,6 +235,8 @@ fn modes() {
     for (mode, left, records) in [
         (Mode::Plain, string, said("3- 00")),
         (Mode::Strict, sum, said("00 3-")),
+        (Mode::Joined, string, said("3- 00")),
+        (Mode::StrictJoined, sum, said("00 3-")),
     ] {
         gives(optimize(mode, &text), left, records.clone());
         gives(run_pass(2, mode, &text), left, records.clone());
@@ -308,6 +310,35 @@ fn short_records() {
         Refusal::ShortRecords(42).to_string(),
         "the records need 42 bytes of room"
     );
+}
+
+/// Below a template over lines a statement begins in joined mode alone; the sum of strings above it
+/// stays in strict mode alone.
+#[test]
+fn templates_over_lines() {
+    let sum = &b"r1 = \"a\" + f() + \"b\";\n"[..];
+    let raw = &b"  let r0;\nx = `{\n}`;\n  r0 = f();\n  use(r0);\n"[..];
+    let called = &b"  let r0;\nx = `{\n}`;\n  use(f());\n"[..];
+    let bound = &b"x = `{\n}`;\n  let r0 = f();\n  use(r0);\n"[..];
+    let tidy = &b"x = `{\n}`;\n  use(f());\n"[..];
+    for mode in [Mode::Plain, Mode::Strict] {
+        expect_in(mode, Call::of(4, raw), Ok((raw, &kept(5))));
+        expect_in(mode, Call::of(6, raw), Ok((raw, &kept(5))));
+    }
+    for mode in [Mode::Joined, Mode::StrictJoined] {
+        let (calls, binds) = (said("00 01 02 23 13"), said("3- 00 01 12 03"));
+        expect_in(mode, Call::of(4, raw), Ok((called, &calls)));
+        expect_in(mode, Call::of(6, raw), Ok((bound, &binds)));
+    }
+    let text = [sum, raw].concat();
+    for (mode, above, below, records) in [
+        (Mode::Plain, &b""[..], raw, said("3- 00 01 02 03 04")),
+        (Mode::Strict, sum, raw, kept(6)),
+        (Mode::Joined, &b""[..], tidy, said("3- 3- 00 01 22 12")),
+        (Mode::StrictJoined, sum, tidy, said("00 3- 01 02 23 13")),
+    ] {
+        gives(optimize(mode, &text), &[above, below].concat(), records);
+    }
 }
 
 fn lines(n: usize) -> Vec<u8> {

@@ -34,6 +34,7 @@ fn every_define() {
         ("BLOCKS", BLOCKS),
         ("BRACKETS", BRACKETS),
         ("BYTES", BYTES),
+        ("JOINED", Mode::Joined as usize),
         ("LINES", LINES),
         ("NO_LINE", 65_535), // none in Rust
         ("PLAIN", Mode::Plain as usize),
@@ -41,6 +42,7 @@ fn every_define() {
         ("RECORDS", RECORDS),
         ("STACK", STACK),
         ("STRICT", Mode::Strict as usize),
+        ("STRICT_JOINED", Mode::StrictJoined as usize),
         ("TEXT", TEXT),
     ];
     assert_eq!(found, wanted);

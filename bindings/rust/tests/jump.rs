@@ -44,7 +44,7 @@ fn a_call_and_what_it_took_in() {
 fn the_sample_by_each_entry() {
     let tidy = optimize(Mode::Plain, SAMPLE).expect("a result");
     assert_eq!(tidy.origins, ORIGINS);
-    for mode in [Mode::Plain, Mode::Strict] {
+    for mode in [Mode::Plain, Mode::Strict, Mode::Joined, Mode::StrictJoined] {
         agrees(&optimize(mode, SAMPLE).expect("a result"));
         for pass in 1..=6 {
             agrees(&run_pass(pass, mode, SAMPLE).expect("a result"));

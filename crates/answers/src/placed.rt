@@ -76,7 +76,7 @@ fn place_lines(a: &[u8], blocks: &mut [usize], starts: &mut [u8], up: &mut [u32]
     if 4294967295 < up.len() {
         return nothing();
     }
-    place::place_lines(a, blocks, starts, up, &mut ends)
+    place::place_lines(a, false, blocks, starts, up, &mut ends)
 }
 
 // The block of each line.

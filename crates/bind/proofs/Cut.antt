@@ -2,7 +2,7 @@
 use Prim.Native.Nat.{ℕ, zero, suc, _+_, _≤_, _<_}
 use mathlib.Core.Path.{_≡_, refl, sym, ap, _∙_}
 use mathlib.Core.Bool.{Bool, true, false, cond, not, _||_}
-use mathlib.Core.List.{List, [], _∷_, _++_, append-nil, map, map-append}
+use mathlib.Core.List.{List, [], _∷_, _++_, append-nil}
 use native.Mathlib.Omega.{arith}
 use lib.Dec.{eqb}
 use lib.ListN.{length, take, drop, length-drop}
@@ -23,7 +23,7 @@ use Rattle.place.proofs.Blocks.{rename, renamed, blockBelow, nextBelow, blocks-
 use Rattle.place.proofs.Starts.{length-starts, startsBelow, starts-cut}
 use Rattle.decls.specs.Decls.{declAct}
 use Rattle.reading.specs.Reading.{Reading, plain}
-use Rattle.reading.proofs.ByLine.{ByLine}
+use Rattle.reading.proofs.Lined.{Lined}
 use Rattle.reading.specs.Uses.{usedIn}
 use Rattle.bind.specs.Bind.{BlockLine, blockLinesOf, blockLines, linesWithin, untilHead, declCount, storeCount, firstUse, storeAt, bound, boundBy, anyBound, unboundOne, unbound, mark, markOne, markAll, marked, piecesOf, promoted, bindAct, aboveIn, bindGo, bindDeclaratorsActs, bindDeclarators}
 
@@ -220,10 +220,6 @@ alike-header t d l ls (x ∷ bs) a b ss e = each refl refl (λ f. no (sym f ∙ 
 
 -- ---- the law
 
-map-length : (f : List ℕ → List ℕ) (xs : List (List ℕ)) → length (map f xs) ≡ length xs
-map-length f [] = refl
-map-length f (x ∷ xs) = ap suc (map-length f xs)
-
 -- one act for each line
 go-length : (sp : List BlockLine) (above : List (List ℕ)) (ms : List Bool) → length (bindGo sp above ms) ≡ length sp
 unfolding bindGo
@@ -252,23 +248,20 @@ unfolding blockLinesOf
 upper-go sp h ts [] s ss e = ap (λ (r : List BlockLine). bindGo r [] []) (append-nil sp) ∙ sym (ap (λ (r : List Act). bindGo sp [] [] ++ r) go-none ∙ append-nil (bindGo sp [] []))
 upper-go sp h ts (b ∷ bs) s ss e = go-upper (record { line = h; block = b; starts = s }) (blockLinesOf ts bs ss) e sp [] [] (omega arith)
 
-module _ {R : Reading} (c : ByLine R) where
-  pub clean-long : (ls : List (List ℕ)) → length (R .clean ls) ≡ length ls
-  clean-long ls = ap length (c .is ls) ∙ map-length (c .one) ls
+module _ {R : Reading} {shut : List (List ℕ) → Bool} (c : Lined R shut) where
+  clean-cut : (us : List (List ℕ)) (h : List ℕ) (ts : List (List ℕ)) → shut us ≡ true → R .clean (us ++ h ∷ ts) ≡ R .clean us ++ c .one h ∷ c .rest h ts
+  clean-cut us h ts s = c .splits us (h ∷ ts) s ∙ ap (λ (ls : List (List ℕ)). R .clean us ++ ls) (c .first h ts)
 
-  clean-cut : (us : List (List ℕ)) (h : List ℕ) (ts : List (List ℕ)) → R .clean (us ++ h ∷ ts) ≡ R .clean us ++ c .one h ∷ map (c .one) ts
-  clean-cut us h ts = c .is (us ++ h ∷ ts) ∙ map-append (c .one) us (h ∷ ts) ∙ ap (λ (ls : List (List ℕ)). ls ++ c .one h ∷ map (c .one) ts) (sym (c .is us))
-
-  module _ (us : List (List ℕ)) (h : List ℕ) (ts : List (List ℕ)) (e : isHeader h ≡ true) (o : own (R .clean (h ∷ ts)) ≡ true) where
-    tail-clean : R .clean (h ∷ ts) ≡ c .one h ∷ map (c .one) ts
-    tail-clean = c .is (h ∷ ts)
+  module _ (us : List (List ℕ)) (h : List ℕ) (ts : List (List ℕ)) (e : isHeader h ≡ true) (s : shut us ≡ true) (o : own (R .clean (h ∷ ts)) ≡ true) where
+    tail-clean : R .clean (h ∷ ts) ≡ c .one h ∷ c .rest h ts
+    tail-clean = c .first h ts
 
     blocks-are : blocks (R .clean (us ++ h ∷ ts)) ≡ blocks (R .clean us) ++ renamed (blockBelow (R .clean us)) (nextBelow (R .clean us)) (blocks (R .clean (h ∷ ts)))
-    blocks-are = ap blocks (clean-cut us h ts ∙ ap (λ (ls : List (List ℕ)). R .clean us ++ ls) (sym tail-clean)) ∙ blocks-cut (R .clean us) (R .clean (h ∷ ts)) o
+    blocks-are = ap blocks (c .splits us (h ∷ ts) s) ∙ blocks-cut (R .clean us) (R .clean (h ∷ ts)) o
 
     starts-are : startsGo (R .clean (us ++ h ∷ ts)) true ≡ startsGo (R .clean us) true ++ startsBelow (R .clean us) true ∷ drop 1 (startsGo (R .clean (h ∷ ts)) true)
     starts-are =
-        ap (λ (ls : List (List ℕ)). startsGo ls true) (clean-cut us h ts) ∙ starts-cut (R .clean us) (map (c .one) ts) (c .one h) (c .shown h e)
+        ap (λ (ls : List (List ℕ)). startsGo ls true) (clean-cut us h ts s) ∙ starts-cut (R .clean us) (c .rest h ts) (c .one h) (c .shown h e)
         ∙ ap (λ (ls : List (List ℕ)). startsGo (R .clean us) true ++ startsBelow (R .clean us) true ∷ drop 1 (startsGo ls true)) (sym tail-clean)
 
     -- the tail's spots below the upper lines
@@ -279,13 +272,13 @@ module _ {R : Reading} (c : ByLine R) where
     unfolding blockLines lower
     spots-are =
         rw (blocks-are, starts-are)
-        (spots-append us (h ∷ ts) (blocks (R .clean us)) _ (startsGo (R .clean us) true) _ (length-blocks (R .clean us) ∙ clean-long us) (length-starts (R .clean us) true ∙ clean-long us))
+        (spots-append us (h ∷ ts) (blocks (R .clean us)) _ (startsGo (R .clean us) true) _ (length-blocks (R .clean us) ∙ c .long us) (length-starts (R .clean us) true ∙ c .long us))
 
     lower-alike : Alike (rename (blockBelow (R .clean us)) (nextBelow (R .clean us))) lower (blockLines R (h ∷ ts))
     unfolding blockLines lower
     lower-alike =
-        rw (tail-clean, ← starts-first (c .one h) (map (c .one) ts))
-        (alike-header (blockBelow (R .clean us)) (nextBelow (R .clean us)) h ts (blocks (c .one h ∷ map (c .one) ts)) (startsBelow (R .clean us) true) true (drop 1 (startsGo (c .one h ∷ map (c .one) ts) true)) e)
+        rw (tail-clean, ← starts-first (c .one h) (c .rest h ts))
+        (alike-header (blockBelow (R .clean us)) (nextBelow (R .clean us)) h ts (blocks (c .one h ∷ c .rest h ts)) (startsBelow (R .clean us) true) true (drop 1 (startsGo (c .one h ∷ c .rest h ts) true)) e)
 
     acts-go : bindGo (blockLines R us ++ lower) [] [] ≡ bindGo (blockLines R us) [] [] ++ bindGo lower [] []
     unfolding lower
@@ -302,19 +295,19 @@ module _ {R : Reading} (c : ByLine R) where
   -- one act for each line
   pub bind-length : (ls : List (List ℕ)) → length (bindDeclaratorsActs R ls) ≡ length ls
   unfolding bindDeclaratorsActs blockLines
-  bind-length ls = go-length (blockLines R ls) [] [] ∙ spots-length ls (blocks (R .clean ls)) (startsGo (R .clean ls) true) (length-blocks (R .clean ls) ∙ clean-long ls) (length-starts (R .clean ls) true ∙ clean-long ls)
+  bind-length ls = go-length (blockLines R ls) [] [] ∙ spots-length ls (blocks (R .clean ls)) (startsGo (R .clean ls) true) (length-blocks (R .clean ls) ∙ c .long ls) (length-starts (R .clean ls) true ∙ c .long ls)
 
   -- demand 3, of acts
-  pub bind-acts-cut : (upper tail : List (List ℕ)) → headed tail ≡ true → own (R .clean tail) ≡ true →
+  pub bind-acts-cut : (upper tail : List (List ℕ)) → headed tail ≡ true → shut upper ≡ true → own (R .clean tail) ≡ true →
       bindDeclaratorsActs R (upper ++ tail) ≡ bindDeclaratorsActs R upper ++ bindDeclaratorsActs R tail
   unfolding headed
-  bind-acts-cut upper [] h o = no h
-  bind-acts-cut upper (l ∷ ls) h o = acts-at upper l ls h o
+  bind-acts-cut upper [] h s o = no h
+  bind-acts-cut upper (l ∷ ls) h s o = acts-at upper l ls h s o
 
   -- demand 3, of lines
-  pub bind-cut : (upper tail : List (List ℕ)) → headed tail ≡ true → own (R .clean tail) ≡ true →
+  pub bind-cut : (upper tail : List (List ℕ)) → headed tail ≡ true → shut upper ≡ true → own (R .clean tail) ≡ true →
       bindDeclarators R (upper ++ tail) ≡ bindDeclarators R upper ++ bindDeclarators R tail
   unfolding bindDeclarators
-  bind-cut upper tail h o =
-      ap (λ (r : List Act). apply r (upper ++ tail)) (bind-acts-cut upper tail h o)
+  bind-cut upper tail h s o =
+      ap (λ (r : List Act). apply r (upper ++ tail)) (bind-acts-cut upper tail h s o)
       ∙ apply-append (bindDeclaratorsActs R upper) upper (bindDeclaratorsActs R tail) tail (bind-length upper)

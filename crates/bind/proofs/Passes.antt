@@ -35,8 +35,8 @@ use Rattle.reading.specs.Uses.{lineStores}
 use Rattle.bind.specs.Bind.{BlockLine, blockLines, linesWithin, untilHead, firstUse, storeAt, bound, boundBy, anyBound, unbound, mark, markOne, markAll, marked, piecesOf, promoted, bindAct, aboveIn, bindGo, bindDeclaratorsActs, bindDeclarators}
 use Rattle.bind.specs.Inner.Steps.{fails, left}
 use Rattle.bind.proofs.WalkLaws.{in-spots, kept-is, mark-none}
-use Rattle.reading.proofs.ByLine.{ByLine, plain-by-line}
-use Rattle.bind.proofs.Cut.{clean-long, bound-store}
+use Rattle.reading.proofs.Lined.{Lined, plain-lined}
+use Rattle.bind.proofs.Cut.{bound-store}
 
 -- ---- what becomes of a line
 
@@ -280,10 +280,10 @@ module _ (above : List (List ℕ)) (d : BlockLine) (below : List BlockLine) wher
 
 -- ---- the pass
 
-module _ {R : Reading} (c : ByLine R) where
+module _ {R : Reading} {shut : List (List ℕ) → Bool} (c : Lined R shut) where
   pub lines-are : (ls : List (List ℕ)) → linesWithin (blockLines R ls) ≡ ls
   unfolding blockLines
-  lines-are ls = in-spots ls (blocks (R .clean ls)) (startsGo (R .clean ls) true) (length-blocks (R .clean ls) ∙ clean-long c ls) (length-starts (R .clean ls) true ∙ clean-long c ls)
+  lines-are ls = in-spots ls (blocks (R .clean ls)) (startsGo (R .clean ls) true) (length-blocks (R .clean ls) ∙ c .long ls) (length-starts (R .clean ls) true ∙ c .long ls)
 
   -- no line holds an LF where none did
   pub keeps-noLf : (ls : List (List ℕ)) → noLf ls ≡ true → noLf (bindDeclarators R ls) ≡ true
@@ -310,4 +310,4 @@ bind-lines R ls = apply-length (bindDeclaratorsActs R ls) ls
 
 -- the next pass sees the lines that this one made
 pub bind-reads : (t : List ℕ) → linesOf (unlines (bindDeclarators plain (linesOf t))) ≡ bindDeclarators plain (linesOf t)
-bind-reads t = lines-unlines (bindDeclarators plain (linesOf t)) (keeps-noLf plain-by-line (linesOf t) (lines-noLf t))
+bind-reads t = lines-unlines (bindDeclarators plain (linesOf t)) (keeps-noLf plain-lined (linesOf t) (lines-noLf t))

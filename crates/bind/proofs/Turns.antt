@@ -2,12 +2,13 @@
 use Prim.Native.Nat.{ℕ, zero, suc, _+_, _-_, _*_, _/_, _%_, _≤_, _<_, _^_, min}
 use mathlib.Core.Path.{_≡_, refl, sym, ap, _∙_, subst}
 use mathlib.Core.Bool.{Bool, true, false, cond}
-use mathlib.Core.List.{List}
+use mathlib.Core.List.{List, []}
 use native.Mathlib.Omega.{arith}
 use borrow.Author.Tests.{eq-eqb, ne-eqb}
 use lib.Dec.{eqb, ltb}
 use lib.ListN.{length, getD, drop}
 use Rattle.lines.specs.Lf.{part, upTo, linesOf, unlines}
+use Rattle.lines.specs.Acts.{apply}
 use Rattle.lines.specs.Inner.Out.{Wrote}
 use Rattle.text.specs.Trim.{trimOf}
 use Rattle.place.specs.Region.{isHeader}
@@ -20,10 +21,9 @@ use Rattle.records.specs.Inner.Records.{noRec, recAt, recordsOf, Above, lastRec
 use Rattle.records.proofs.Down.{Down, down-start, down-some, down-none, down-lt, down-here, down-on}
 use Rattle.records.proofs.Shown.{Shows, Has, told-long, shows-start, shows-asks, shows-filled}
 use Rattle.decls.specs.Inner.Seen.{AtMost}
-use Rattle.reading.specs.Reading.{plain}
 use Rattle.bind.specs.declared.Site.{Site}
-use Rattle.bind.specs.Bind.{bindDeclarators}
-use Rattle.bind.specs.Inner.Steps.{lineOf, belowOf, boundAt, markRow, siteText, siteNotes, bindNotes}
+use Rattle.bind.specs.Bind.{bindGo}
+use Rattle.bind.specs.Inner.Steps.{lineOf, belowOf, boundAt, markRow, siteText, siteNotes, notesGo, tabled}
 use Rattle.bind.specs.Inner.Index.{seenAt, firstAt, siteSeen, siteFirst, ReadyFor}
 use Rattle.bind.specs.Inner.Sites.{stopBy, firstSite, siteOf, WalkedSites}
 use Rattle.bind.proofs.WalkLaws.{BindInv, RegionAt, region-same, region-new, walk-start, walk-reach, walk-marks, walk-room, walk-on, walk-lt, walk-end, walk-filled}
@@ -111,7 +111,7 @@ turn-start own t es n bs ss d u m o s x a b c w f e i =
     let down : Down t bs (recordsOf (linesOf t) bs) 0 0 0 = down-start (w .told .long) in
     let marked : Marked t es 0 0 = record { rest = w .told .behind; left = w .told .marks } in
     subst (λ (y : ℕ). TurnInv own t es n bs ss d u m o d u m o s y 0 0) (sym i) (subst (λ (y : Site). TurnInv own t es n bs ss d u m o d u m o y 0 0 0) (sym e) (record {
-      bind = walk-start t bs ss m o x (w .rows) (w .fits) (w .unmarked) (w .room) (λ e₁ l q g. f ∙ stop-is n n (w .told .count) (omega arith) (omega arith) down marked 0 (λ _. refl) ∙ ap (λ (y : ℕ). 0 + y) (end-on t 0 e₁ l q g));
+      bind = walk-start t bs ss m o x (w .rows) (w .lines) (w .fits) (w .unmarked) (w .room) (λ e₁ l q g. f ∙ stop-is n n (w .told .count) (omega arith) (omega arith) down marked 0 (λ _. refl) ∙ ap (λ (y : ℕ). 0 + y) (end-on t 0 e₁ l q g));
       index = index-start own t d u x a b c;
       down = down;
       marked = marked;
@@ -119,7 +119,7 @@ turn-start own t es n bs ss d u m o s x a b c w f e i =
     }))
 
 pub turn-end : {own t es : List ℕ} {n : ℕ} {bs ss d₀ u₀ m₀ o₀ d u m o : List ℕ} {s : Site} {c k p : ℕ} → TurnInv own t es n bs ss d₀ u₀ m₀ o₀ d u m o s c k p → n ≤ k →
-    (Wrote o₀ 0 (unlines (bindDeclarators plain (linesOf t))) o p) × (Filled m₀ (bindNotes plain (linesOf t)) m (length (linesOf t)))
+    (Wrote o₀ 0 (unlines (apply (bindGo (tabled (linesOf t) bs ss) [] []) (linesOf t))) o p) × (Filled m₀ (notesGo (tabled (linesOf t) bs ss) [] []) m (length (linesOf t)))
 turn-end h l = let q = down-none (h .down) (let e = h .count in omega arith) in (walk-end (h .bind) q, walk-filled (h .bind) q)
 
 module _ {own t es : List ℕ} {n : ℕ} {bs ss d₀ u₀ m₀ o₀ d u m o : List ℕ} {s : Site} {c k p : ℕ} (h : TurnInv own t es n bs ss d₀ u₀ m₀ o₀ d u m o s c k p) (l : k < n) where

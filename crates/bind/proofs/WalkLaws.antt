@@ -8,8 +8,6 @@ use borrow.Author.Tests.{leb-true, leb-false, ne-eqb}
 use lib.Dec.{eqb, leb}
 use lib.ListN.{length, getD, set, take, drop, replicate, length-append, length-drop, length-replicate, take-append-drop}
 use lib.Seq.{drop-drop, drop-nil, take-add, take-all, getD-drop, append-snoc, set-append-left, getD-at}
-use Rattle.place.proofs.Blocks.{cleaned-length, length-ids}
-use Rattle.place.proofs.Starts.{length-starts}
 use Rattle.lines.specs.Lf.{part, upTo, cutOn, linesOf, partsOf, unlines}
 use Rattle.lines.specs.Acts.{Act, keep, become, into, gone, act, apply}
 use Rattle.lines.specs.Inner.Out.{Wrote}
@@ -24,21 +22,23 @@ use Rattle.names.specs.declared.RegName.the-variants as name
 use Rattle.parse.specs.Parse.{bodyOf, isDecl}
 use Rattle.place.specs.Region.{isHeader, untilHeader, region}
 use Rattle.place.specs.Inner.Region.{upHeader, regionLen}
+use Rattle.lexical.specs.Joined.{restsIn}
 use Rattle.place.specs.Blocks.{cleaned}
 use Rattle.place.specs.Inner.Blocks.{blockIds}
 use Rattle.place.specs.Starts.{startsGo}
 use Rattle.place.specs.Inner.Fill.{Filled, flagsOf}
 use Rattle.place.proofs.Regions.{past, end-on, region-lines}
-use Rattle.place.proofs.Fills.{entry-on, entry-end, filled-take}
+use Rattle.place.proofs.Fills.{entry-on, entry-end, filled-take, flags-length}
 use Rattle.decls.specs.Decls.{declAct}
 use Rattle.decls.specs.Inner.Print.{bareName, one, kept, declText}
 use Rattle.decls.proofs.PrintLaws.{writing-fits, act-text}
 use Rattle.decls.proofs.Writes.{reg-bare}
-use Rattle.reading.specs.Reading.{plain}
+use Rattle.reading.specs.Reading.{joinedAt, readingOf}
+use Rattle.records.proofs.Filled.{FilledBy, block-count, start-count}
 use Rattle.reading.specs.Uses.{lineStores, lineUses, usedIn}
 use Rattle.bind.specs.declared.Site.{Site}
 use Rattle.bind.specs.Bind.{BlockLine, blockLinesOf, blockLines, linesWithin, untilHead, declCount, storeCount, firstUse, storeAt, bound, boundBy, anyBound, unboundOne, unbound, mark, markOne, markAll, marked, piecesOf, promoted, bindAct, aboveIn, bindGo, bindDeclaratorsActs, bindDeclarators}
-use Rattle.bind.specs.Inner.Steps.{aboveOf, lineOf, belowOf, useRow, storesAt, boundAt, markRow, passes, fails, left, anyPass, noted, notedAll, givesUp, otherText, siteText, siteMarks, siteNotes, endNote, notesGo, bindNotes, Rows, none, row, Reach}
+use Rattle.bind.specs.Inner.Steps.{aboveOf, lineOf, belowOf, useRow, storesAt, boundAt, markRow, passes, fails, left, anyPass, noted, notedAll, givesUp, otherText, siteText, siteMarks, siteNotes, endNote, notesGo, bindNotes, tabled, Rows, none, row, Reach}
 use Rattle.bind.proofs.CountLaws.{decl-cons, store-cons, blank-stores}
 use Rattle.bind.proofs.SiteLaws.{bound-lt}
 
@@ -469,16 +469,16 @@ set-here q rest x y k e =
     ap (λ (l : List ℕ). set l k y) (append-assoc q (x ∷ []) rest) ∙ ap (λ (n : ℕ). set (q ++ (x ∷ rest)) n y) z ∙ set-right q (x ∷ rest) 0 y ∙ sym (append-assoc q (y ∷ []) rest)
 
 -- the table of marks: those of the lines above, then those made for the lines to come, sp
-pub record Marks (t m₀ m : List ℕ) (sp : List BlockLine) (us : List (List ℕ)) (ms : List Bool) (k : ℕ) : Type 0 where
+pub record Marks (t bs ss m₀ m : List ℕ) (sp : List BlockLine) (us : List (List ℕ)) (ms : List Bool) (k : ℕ) : Type 0 where
   pub before : List ℕ
   pub count : length before ≡ k
   pub total : k + length sp ≡ length (linesOf t)
   pub fits : length (linesOf t) ≤ length m₀
   pub table : m ≡ before ++ (padTo (length sp) ms ++ drop (length (linesOf t)) m₀)
-  pub so-far : before ++ notesGo sp us ms ≡ bindNotes plain (linesOf t)
+  pub so-far : before ++ notesGo sp us ms ≡ notesGo (tabled (linesOf t) bs ss) [] []
 
-marks-length : {t m₀ m : List ℕ} {sp : List BlockLine} {us : List (List ℕ)} {ms : List Bool} {k : ℕ} → Marks t m₀ m sp us ms k → length m ≡ length m₀
-marks-length {t} {m₀} {m} {sp} {us} {ms} {k} h =
+marks-length : {t bs ss m₀ m : List ℕ} {sp : List BlockLine} {us : List (List ℕ)} {ms : List Bool} {k : ℕ} → Marks t bs ss m₀ m sp us ms k → length m ≡ length m₀
+marks-length {t} {bs} {ss} {m₀} {m} {sp} {us} {ms} {k} h =
     omega (
       arith,
       ap length (h .table),
@@ -503,8 +503,8 @@ pub record BindInv (t bs ss m₀ m d₀ d : List ℕ) (top end i k o : ℕ) : Ty
   pub above : Like us (linesOf (part top i t))
   pub whole : i < length t → Whole (part top i t)
   pub ends : (e : ℕ) → i < length t → e ≡ i + upTo 10 (drop i t) → isHeader (part i e t) ≡ false → end ≡ i + regionLen (drop i t)
-  pub writing : Writing 0 (unlines (bindDeclarators plain (linesOf t))) (goText sp us ms) d₀ d o
-  pub marks : Marks t m₀ m sp us ms k
+  pub writing : Writing 0 (unlines (apply (bindGo (tabled (linesOf t) bs ss) [] []) (linesOf t))) (goText sp us ms) d₀ d o
+  pub marks : Marks t bs ss m₀ m sp us ms k
 
 -- a line, d, and those below it, sp
 pub record Opened (t bs ss m₀ m d₀ d : List ℕ) (us : List (List ℕ)) (ms : List Bool) (i k o : ℕ) : Type 0 where
@@ -512,8 +512,8 @@ pub record Opened (t bs ss m₀ m d₀ d : List ℕ) (us : List (List ℕ)) (ms 
   pub more : List BlockLine
   pub lines : linesWithin (spot ∷ more) ≡ linesOf (drop i t)
   pub rows : Rows (spot ∷ more) (drop k bs) (drop k ss)
-  pub writing : Writing 0 (unlines (bindDeclarators plain (linesOf t))) (goText (spot ∷ more) us ms) d₀ d o
-  pub marks : Marks t m₀ m (spot ∷ more) us ms k
+  pub writing : Writing 0 (unlines (apply (bindGo (tabled (linesOf t) bs ss) [] []) (linesOf t))) (goText (spot ∷ more) us ms) d₀ d o
+  pub marks : Marks t bs ss m₀ m (spot ∷ more) us ms k
 
 in-nil : linesWithin [] ≡ []
 unfolding linesWithin
@@ -522,7 +522,7 @@ in-nil = refl
 opened : {t bs ss m₀ m d₀ d : List ℕ} {top end i k o : ℕ} (h : BindInv t bs ss m₀ m d₀ d top end i k o) (e : ℕ) → i < length t → e ≡ i + upTo 10 (drop i t) → Opened t bs ss m₀ m d₀ d (h .us) (h .ms) i k o
 opened {t} {bs} {ss} {m₀} {m} {d₀} {d} {top} {end} {i} {k} {o} h e l q = go (h .sp) (h .lines) (h .rows) (h .writing) (h .marks)
   where
-    go : (sp : List BlockLine) → linesWithin sp ≡ linesOf (drop i t) → Rows sp (drop k bs) (drop k ss) → Writing 0 (unlines (bindDeclarators plain (linesOf t))) (goText sp (h .us) (h .ms)) d₀ d o → Marks t m₀ m sp (h .us) (h .ms) k →
+    go : (sp : List BlockLine) → linesWithin sp ≡ linesOf (drop i t) → Rows sp (drop k bs) (drop k ss) → Writing 0 (unlines (apply (bindGo (tabled (linesOf t) bs ss) [] []) (linesOf t))) (goText sp (h .us) (h .ms)) d₀ d o → Marks t bs ss m₀ m sp (h .us) (h .ms) k →
         Opened t bs ss m₀ m d₀ d (h .us) (h .ms) i k o
     go [] a b c f = absurd (omega (arith, ap length (sym in-nil ∙ a ∙ lines-at t i e l q)))
     go (s ∷ sp) a b c f = record { spot = s; more = sp; lines = a; rows = b; writing = c; marks = f }
@@ -656,7 +656,7 @@ module _ {t bs ss m₀ m d₀ d : List ℕ} {top end i k o : ℕ} (h : BindInv t
         go false = refl
 
     next-marks : {m′ : List ℕ} → m′ ≡ siteNotes (boundAt t site bs ss) (markRow t site) (lineOf t site) k m →
-        Marks t m₀ m′ (here .more) (here .spot .line ∷ aboveIn (here .spot) (h .us)) (nextMarks (here .spot) (here .more) (h .us) (h .ms)) (k + 1)
+        Marks t bs ss m₀ m′ (here .more) (here .spot .line ∷ aboveIn (here .spot) (h .us)) (nextMarks (here .spot) (here .more) (h .us) (h .ms)) (k + 1)
     next-marks {m′} x = record {
       before = lower;
       count = omega (arith, length-append (here .marks .before) (noteHere (here .spot) (here .more) (h .us) (h .ms) ∷ []), here .marks .count);
@@ -702,10 +702,6 @@ in-spots (l ∷ ls) [] ss p q = absurd (omega arith)
 in-spots (l ∷ ls) (b ∷ bs) [] p q = absurd (omega arith)
 in-spots (l ∷ ls) (b ∷ bs) (s ∷ ss) p q = ap (λ (r : List (List ℕ)). l ∷ r) (in-spots ls bs ss (omega arith) (omega arith))
 
-pub spots-lines : (ls : List (List ℕ)) → linesWithin (blockLines plain ls) ≡ ls
-unfolding blockLines
-spots-lines ls = in-spots ls (blockIds ls) (startsGo (cleaned ls) true) (length-ids ls) (length-starts (cleaned ls) true ∙ cleaned-length ls)
-
 rows-spots : (ls : List (List ℕ)) (bs : List ℕ) (ss : List Bool) (x y : List ℕ) → length bs ≡ length ls → length ss ≡ length ls → Rows (blockLinesOf ls bs ss) (bs ++ x) (flagsOf ss ++ y)
 unfolding blockLinesOf flagsOf
 rows-spots [] bs ss x y p q = none
@@ -713,24 +709,68 @@ rows-spots (l ∷ ls) [] ss x y p q = absurd (omega arith)
 rows-spots (l ∷ ls) (b ∷ bs) [] x y p q = absurd (omega arith)
 rows-spots (l ∷ ls) (b ∷ bs) (s ∷ ss) x y p q = row (rows-spots ls bs ss x y (omega arith) (omega arith))
 
--- the tables as they were filled
-pub rows-filled : (ls : List (List ℕ)) {b b′ s s′ : List ℕ} {p q : ℕ} → Filled b (blockIds ls) b′ p → Filled s (flagsOf (startsGo (cleaned ls) true)) s′ q → Rows (blockLines plain ls) b′ s′
-unfolding blockLines
-rows-filled ls {b} {b′} {s} {s′} f g =
-    rw (f .holds, g .holds)
-    (rows-spots ls (blockIds ls) (startsGo (cleaned ls) true) (drop (length (blockIds ls)) b) (drop (length (flagsOf (startsGo (cleaned ls) true))) s) (length-ids ls) (length-starts (cleaned ls) true ∙ cleaned-length ls))
+-- rows and lines tell the lines by the tables
+rows-told : (ls : List (List ℕ)) (sp : List BlockLine) {bs ss : List ℕ} → Rows sp bs ss → linesWithin sp ≡ ls → tabled ls bs ss ≡ sp
+unfolding linesWithin tabled
+rows-told ls [] (none {bs = bs} {ss = ss}) e = ap (λ (x : List (List ℕ)). tabled x bs ss) (sym e)
+rows-told ls (d ∷ sp) (row {bs = bs} {ss = ss} r) e =
+    ap (λ (x : List (List ℕ)). tabled x (d .block ∷ bs) (cond (d .starts) 1 0 ∷ ss)) (sym e)
+    ∙ ap (λ (x : List BlockLine). record { line = d .line; block = d .block; starts = eqb (cond (d .starts) 1 0) 1 } ∷ x) (rows-told (linesWithin sp) sp r refl)
+    ∙ ap (λ (x : Bool). record { line = d .line; block = d .block; starts = x } ∷ sp) (flag-is (d .starts))
+  where
+    flag-is : (x : Bool) → eqb (cond x 1 0) 1 ≡ x
+    flag-is true = refl
+    flag-is false = refl
 
-go-all : (ls : List (List ℕ)) → unlines (bindDeclarators plain ls) ≡ goText (blockLines plain ls) [] []
-unfolding goText bindDeclarators bindDeclaratorsActs
-go-all ls = ap (λ (r : List (List ℕ)). unlines (apply (bindGo (blockLines plain ls) [] []) r)) (sym (spots-lines ls))
+-- the tables as `place::place_lines` fills them in a mode: the lines by them are those of the mode
+module _ (mode : ℕ) (t : List ℕ) {b₀ b s₀ s u₀ u : List ℕ} {r : ℕ} (f : FilledBy (joinedAt mode) t b₀ b s₀ s u₀ u r) where
+  abbrev ls : List (List ℕ)
+  ls = linesOf t
 
-notes-all : (ls : List (List ℕ)) → notesGo (blockLines plain ls) [] [] ≡ bindNotes plain ls
-unfolding bindNotes
-notes-all ls = refl
+  abbrev rests : List (List ℕ)
+  rests = restsIn (joinedAt mode) ls
 
-marks-start : (t m : List ℕ) → length (linesOf t) ≤ length m → take (length (linesOf t)) m ≡ replicate (length (linesOf t)) 0 → Marks t m m (blockLines plain (linesOf t)) [] [] 0
-marks-start t m p q =
-    let n : length (blockLines plain (linesOf t)) ≡ length (linesOf t) = sym (in-length (blockLines plain (linesOf t))) ∙ ap length (spots-lines (linesOf t)) in
+  starts-long : length (startsGo (cleaned rests) true) ≡ length ls
+  starts-long = sym (flags-length (startsGo (cleaned rests) true)) ∙ start-count (joinedAt mode) ls
+
+  spots-lines : linesWithin (blockLines (readingOf mode) ls) ≡ ls
+  unfolding blockLines
+  spots-lines = in-spots ls (blockIds rests) (startsGo (cleaned rests) true) (block-count (joinedAt mode) ls) starts-long
+
+  spots-rows : Rows (blockLines (readingOf mode) ls) b s
+  unfolding blockLines
+  spots-rows =
+      rw (f .0 .holds, f .1 .0 .holds)
+      (rows-spots ls (blockIds rests) (startsGo (cleaned rests) true) (drop (length (blockIds rests)) b₀) (drop (length (flagsOf (startsGo (cleaned rests) true))) s₀) (block-count (joinedAt mode) ls) starts-long)
+
+  pub tabled-is : tabled ls b s ≡ blockLines (readingOf mode) ls
+  tabled-is = rows-told ls (blockLines (readingOf mode) ls) spots-rows spots-lines
+
+  pub tabled-rows : Rows (tabled ls b s) b s
+  tabled-rows = subst (λ (x : List BlockLine). Rows x b s) (sym tabled-is) spots-rows
+
+  pub tabled-lines : linesWithin (tabled ls b s) ≡ ls
+  tabled-lines = ap linesWithin tabled-is ∙ spots-lines
+
+  pub tabled-text : unlines (apply (bindGo (tabled ls b s) [] []) ls) ≡ unlines (bindDeclarators (readingOf mode) ls)
+  unfolding bindDeclarators bindDeclaratorsActs
+  tabled-text = ap (λ (x : List BlockLine). unlines (apply (bindGo x [] []) ls)) tabled-is
+
+  pub tabled-notes : notesGo (tabled ls b s) [] [] ≡ bindNotes (readingOf mode) ls
+  unfolding bindNotes
+  tabled-notes = ap (λ (x : List BlockLine). notesGo x [] []) tabled-is
+
+  pub row-count : r ≡ length ls
+  row-count = f .0 .place ∙ block-count (joinedAt mode) ls
+
+go-all : (ls : List (List ℕ)) (sp : List BlockLine) → linesWithin sp ≡ ls → unlines (apply (bindGo sp [] []) ls) ≡ goText sp [] []
+unfolding goText
+go-all ls sp e = ap (λ (r : List (List ℕ)). unlines (apply (bindGo sp [] []) r)) (sym e)
+
+marks-start : (t bs ss m : List ℕ) → linesWithin (tabled (linesOf t) bs ss) ≡ linesOf t → length (linesOf t) ≤ length m → take (length (linesOf t)) m ≡ replicate (length (linesOf t)) 0 →
+    Marks t bs ss m m (tabled (linesOf t) bs ss) [] [] 0
+marks-start t bs ss m e p q =
+    let n : length (tabled (linesOf t) bs ss) ≡ length (linesOf t) = sym (in-length (tabled (linesOf t) bs ss)) ∙ ap length e in
     record {
       before = [];
       count = refl;
@@ -738,25 +778,25 @@ marks-start t m p q =
       fits = p;
       table = sym (take-append-drop (length (linesOf t)) m)
           ∙ ap (λ (x : List ℕ). x ++ drop (length (linesOf t)) m) (q ∙ sym (pad-none (length (linesOf t))) ∙ ap (λ (k : ℕ). padTo k []) (sym n));
-      so-far = notes-all (linesOf t);
+      so-far = refl;
     }
 
-pub walk-start : (t bs ss m d : List ℕ) (end : ℕ) → Rows (blockLines plain (linesOf t)) bs ss → length (linesOf t) ≤ length m → take (length (linesOf t)) m ≡ replicate (length (linesOf t)) 0 →
-    length (unlines (bindDeclarators plain (linesOf t))) ≤ length d →
+pub walk-start : (t bs ss m d : List ℕ) (end : ℕ) → Rows (tabled (linesOf t) bs ss) bs ss → linesWithin (tabled (linesOf t) bs ss) ≡ linesOf t → length (linesOf t) ≤ length m → take (length (linesOf t)) m ≡ replicate (length (linesOf t)) 0 →
+    length (unlines (apply (bindGo (tabled (linesOf t) bs ss) [] []) (linesOf t))) ≤ length d →
     ((e : ℕ) → 0 < length t → e ≡ 0 + upTo 10 (drop 0 t) → isHeader (part 0 e t) ≡ false → end ≡ 0 + regionLen (drop 0 t)) → BindInv t bs ss m m d d 0 end 0 0 0
-walk-start t bs ss m d end r p q w z = record {
+walk-start t bs ss m d end r v p q w z = record {
   i≤ = omega arith;
   top≤ = omega arith;
-  sp = blockLines plain (linesOf t);
+  sp = tabled (linesOf t) bs ss;
   us = [];
   ms = [];
-  lines = spots-lines (linesOf t);
+  lines = v;
   rows = r;
   above = rw (part-none t 0, lines-none) like-none;
   whole = λ h. rw (part-none t 0) whole-none;
   ends = z;
-  writing = writing-as (go-all (linesOf t)) (writing-start 0 (unlines (bindDeclarators plain (linesOf t))) d (omega arith));
-  marks = marks-start t m p q;
+  writing = writing-as (go-all (linesOf t) (tabled (linesOf t) bs ss) v) (writing-start 0 (unlines (apply (bindGo (tabled (linesOf t) bs ss) [] []) (linesOf t))) d (omega arith));
+  marks = marks-start t bs ss m v p q;
 }
 
 sp-nil : (sp : List BlockLine) → length sp ≡ 0 → sp ≡ []
@@ -776,34 +816,28 @@ module _ {t bs ss m₀ m d₀ d : List ℕ} {top end i k o : ℕ} (h : BindInv t
   all-read : length t ≤ i → h .sp ≡ []
   all-read l = sp-nil (h .sp) (omega (arith, in-length (h .sp), ap length (h .lines ∙ lines-end t i l)))
 
-  pub walk-end : length t ≤ i → Wrote d₀ 0 (unlines (bindDeclarators plain (linesOf t))) d o
+  pub walk-end : length t ≤ i → Wrote d₀ 0 (unlines (apply (bindGo (tabled (linesOf t) bs ss) [] []) (linesOf t))) d o
   walk-end l = writing-end (writing-as (ap (λ (sp : List BlockLine). goText sp (h .us) (h .ms)) (all-read l) ∙ go-nil (h .us) (h .ms)) (h .writing))
 
-  pub walk-filled : length t ≤ i → Filled m₀ (bindNotes plain (linesOf t)) m (length (linesOf t))
+  pub walk-filled : length t ≤ i → Filled m₀ (notesGo (tabled (linesOf t) bs ss) [] []) m (length (linesOf t))
   unfolding padTo
   walk-filled l =
       let z = all-read l in
-      let b : h .marks .before ≡ bindNotes plain (linesOf t) =
+      let b : h .marks .before ≡ notesGo (tabled (linesOf t) bs ss) [] [] =
       sym (append-nil (h .marks .before)) ∙ ap (λ (x : List ℕ). h .marks .before ++ x) (sym (ap (λ (sp : List BlockLine). notesGo sp (h .us) (h .ms)) z ∙ notes-empty (h .us) (h .ms))) ∙ h .marks .so-far in
-      let n : length (linesOf t) ≡ length (bindNotes plain (linesOf t)) = omega (arith, h .marks .total, h .marks .count, ap length z, ap length b) in
+      let n : length (linesOf t) ≡ length (notesGo (tabled (linesOf t) bs ss) [] []) = omega (arith, h .marks .total, h .marks .count, ap length z, ap length b) in
       record {
         place = n;
         holds = h .marks .table
             ∙ ap (λ (sp : List BlockLine). h .marks .before ++ (padTo (length sp) (h .ms) ++ drop (length (linesOf t)) m₀)) z
             ∙ ap (λ (x : List ℕ). x ++ drop (length (linesOf t)) m₀) b
-            ∙ ap (λ (x : ℕ). bindNotes plain (linesOf t) ++ drop x m₀) n;
+            ∙ ap (λ (x : ℕ). notesGo (tabled (linesOf t) bs ss) [] [] ++ drop x m₀) n;
       }
 
 -- ---- `bind_declarators`: the tables, then the marks cleared, then the walk
-
-pub table-count : (ls : List (List ℕ)) {b b′ : List ℕ} {n : ℕ} → Filled b (blockIds ls) b′ n → n ≡ length ls
-table-count ls f = f .place ∙ length-ids ls
 
 pub cleared : {m m′ : List ℕ} {n k : ℕ} → n ≡ k → Filled m (replicate n 0) m′ n → take k m′ ≡ replicate k 0
 cleared {m} {m′} {n} {k} e f = subst (λ (x : ℕ). take x m′ ≡ replicate x 0) e (filled-take f)
 
 pub filled-at : {d xs d′ : List ℕ} {n k : ℕ} → n ≡ k → Filled d xs d′ n → Filled d xs d′ k
 filled-at {d} {xs} {d′} e f = subst (λ (x : ℕ). Filled d xs d′ x) e f
-
-pub blocks-fit : (ls : List (List ℕ)) {n : ℕ} → length ls ≤ n → length (blockIds ls) ≤ n
-blocks-fit ls h = omega (arith, length-ids ls)

@@ -8,10 +8,12 @@ ghost use Prim.Native.Nat.{suc, min, _≤_, _<_, _+_, _-_, _^_};
 ghost use lib.Dec.{eqb};
 ghost use lib.ListN.{length, getD, take, drop, replicate};
 ghost use Rattle.lines.specs.Lf.{part, linesOf, partsOf, unlines};
+ghost use Rattle.lines.specs.Acts.{apply};
 ghost use Rattle.lines.specs.Inner.Out.{Wrote};
 ghost use Rattle.text.specs.Trim.{trimOf};
 ghost use Rattle.names.specs.Names.{regOf, regIs};
 ghost use Rattle.origins.specs.Inner.Codes.{farMove};
+ghost use Rattle.lexical.specs.Joined.{restsIn};
 ghost use Rattle.place.specs.Blocks.{cleaned};
 ghost use Rattle.place.specs.Inner.Blocks.{blockIds};
 ghost use Rattle.place.specs.Starts.{startsGo};
@@ -21,11 +23,11 @@ ghost use Rattle.place.specs.Inner.Ends.{endMarks};
 ghost use Rattle.slots.specs.Inner.Slots.{slotOf, entryOf};
 ghost use Rattle.decls.specs.Inner.Seen.{AtMost};
 ghost use Rattle.decls.specs.Inner.Print.{kept, declText};
-ghost use Rattle.reading.specs.Reading.{plain};
+ghost use Rattle.reading.specs.Reading.{joinedAt, readingOf};
 ghost use Rattle.reading.specs.Uses.{lineStores};
-ghost use Rattle.bind.specs.Bind.{blockLines, pieceCount, declCount, storeCount, promoted, bindDeclarators};
+ghost use Rattle.bind.specs.Bind.{pieceCount, declCount, storeCount, promoted, bindGo, bindDeclarators};
 ghost use Rattle.bind.specs.Inner.Index.{siteSeen, siteFirst, Ready, ReadyFor};
-ghost use Rattle.bind.specs.Inner.Steps.{lineOf, belowOf, useRow, storesAt, boundAt, markRow, passes, left, anyPass, noted, notedAll, otherText, siteText, siteMarks, siteNotes, bindNotes, noteMoves, Reach};
+ghost use Rattle.bind.specs.Inner.Steps.{lineOf, belowOf, useRow, storesAt, boundAt, markRow, passes, left, anyPass, noted, notedAll, otherText, siteText, siteMarks, siteNotes, notesGo, bindNotes, noteMoves, tabled, Reach};
 ghost use Rattle.bind.specs.Inner.Sites.{stopBy, firstSite, siteOf, WalkedSites};
 
 // A line of the text and its region: the region begins at `top` and ends at `end`, the line goes from `from` to `to` and the one below
@@ -648,8 +650,8 @@ fn walk_lines(
 ) -> usize
     requires { ⌜ (0 < length (now recs)) × (((length (now seen) ≡ length (now first)) × ((AtMost 0 (now seen)) × (AtMost 0 (now first))))
         × (WalkedSites (now text) (now ends) n (now blocks) (now starts) (now marks) (now out))) ⌝ }
-    ensures answer { λ r. ⌜ Wrote (now (out .entry)) 0 (unlines (bindDeclarators plain (linesOf (now (text .entry))))) (now (out .exit)) r ⌝ }
-    ensures memory { λ _. ⌜ Filled (now (marks .entry)) (bindNotes plain (linesOf (now (text .entry)))) (now (marks .exit)) (length (linesOf (now (text .entry)))) ⌝ }
+    ensures answer { λ r. ⌜ Wrote (now (out .entry)) 0 (unlines (apply (bindGo (tabled (linesOf (now (text .entry))) (now (blocks .entry)) (now (starts .entry))) [] []) (linesOf (now (text .entry))))) (now (out .exit)) r ⌝ }
+    ensures memory { λ _. ⌜ Filled (now (marks .entry)) (notesGo (tabled (linesOf (now (text .entry))) (now (blocks .entry)) (now (starts .entry))) [] []) (now (marks .exit)) (length (linesOf (now (text .entry)))) ⌝ }
 {
     let mut c = place::Region(0);
     let mut s = first_site(stop_by(ends, 0, n, 0, text.len()));
@@ -682,8 +684,8 @@ fn walk_window(
 ) -> usize
     requires { ⌜ ((length (now seen) ≡ length (now first)) × ((AtMost 0 (now seen)) × (AtMost 0 (now first))))
         × (WalkedSites (now text) (now ends) n (now blocks) (now starts) (now marks) (now out)) ⌝ }
-    ensures answer { λ r. ⌜ Wrote (now (out .entry)) 0 (unlines (bindDeclarators plain (linesOf (now (text .entry))))) (now (out .exit)) r ⌝ }
-    ensures memory { λ _. ⌜ Filled (now (marks .entry)) (bindNotes plain (linesOf (now (text .entry)))) (now (marks .exit)) (length (linesOf (now (text .entry)))) ⌝ }
+    ensures answer { λ r. ⌜ Wrote (now (out .entry)) 0 (unlines (apply (bindGo (tabled (linesOf (now (text .entry))) (now (blocks .entry)) (now (starts .entry))) [] []) (linesOf (now (text .entry))))) (now (out .exit)) r ⌝ }
+    ensures memory { λ _. ⌜ Filled (now (marks .entry)) (notesGo (tabled (linesOf (now (text .entry))) (now (blocks .entry)) (now (starts .entry))) [] []) (now (marks .exit)) (length (linesOf (now (text .entry)))) ⌝ }
 {
     let mut recs = records::window();
     walk_lines(
@@ -715,8 +717,8 @@ fn walk(
     out: &mut [u8],
 ) -> usize
     requires { ⌜ WalkedSites (now text) (now ends) n (now blocks) (now starts) (now marks) (now out) ⌝ }
-    ensures answer { λ r. ⌜ Wrote (now (out .entry)) 0 (unlines (bindDeclarators plain (linesOf (now (text .entry))))) (now (out .exit)) r ⌝ }
-    ensures memory { λ _. ⌜ Filled (now (marks .entry)) (bindNotes plain (linesOf (now (text .entry)))) (now (marks .exit)) (length (linesOf (now (text .entry)))) ⌝ }
+    ensures answer { λ r. ⌜ Wrote (now (out .entry)) 0 (unlines (apply (bindGo (tabled (linesOf (now (text .entry))) (now (blocks .entry)) (now (starts .entry))) [] []) (linesOf (now (text .entry))))) (now (out .exit)) r ⌝ }
+    ensures memory { λ _. ⌜ Filled (now (marks .entry)) (notesGo (tabled (linesOf (now (text .entry))) (now (blocks .entry)) (now (starts .entry))) [] []) (now (marks .exit)) (length (linesOf (now (text .entry)))) ⌝ }
     ensures index { λ _. ⌜ (now (seen .exit) ≡ replicate (length (now (seen .entry))) 0) × (now (first .exit) ≡ replicate (length (now (first .entry))) 0) ⌝ }
 {
     let h = slots::shorter(seen.len(), first.len());
@@ -742,6 +744,7 @@ fn walk(
 // left as `place::place_lines` fills them, and `marks` says of each line 2 where it is gone, else 1 where it was such a store (moves_of).
 // `seen` and `first` are room for the index of a region, where `own` says which places are those of high registers; they are left with zeros.
 pub fn bind_declarators(
+    mode: reading::Mode,
     text: &[u8],
     own: &[usize],
     ends: &mut [usize],
@@ -755,18 +758,18 @@ pub fn bind_declarators(
 ) -> usize
     requires { ⌜ ((length (linesOf (now text)) ≤ length (now blocks))
         × ((length (linesOf (now text)) ≤ length (now starts))
-        × ((length (idsParents (linesOf (now text))) ≤ length (now up)) × (length (now up) < 2 ^ 32))))
-        × ((length (linesOf (now text)) ≤ length (now marks)) × ((length (unlines (bindDeclarators plain (linesOf (now text)))) ≤ length (now out))
+        × ((length (idsParents (restsIn (joinedAt (mode .0)) (linesOf (now text)))) ≤ length (now up)) × (length (now up) < 2 ^ 32))))
+        × ((length (linesOf (now text)) ≤ length (now marks)) × ((length (unlines (bindDeclarators (readingOf (mode .0)) (linesOf (now text)))) ≤ length (now out))
         × (length (linesOf (now text)) ≤ length (now ends)))) ⌝ }
-    ensures answer { λ r. ⌜ Wrote (now (out .entry)) 0 (unlines (bindDeclarators plain (linesOf (now (text .entry))))) (now (out .exit)) r ⌝ }
-    ensures tables { λ _. ⌜ (Filled (now (blocks .entry)) (blockIds (linesOf (now (text .entry)))) (now (blocks .exit)) (length (linesOf (now (text .entry)))))
-        × ((Filled (now (starts .entry)) (flagsOf (startsGo (cleaned (linesOf (now (text .entry)))) true)) (now (starts .exit)) (length (linesOf (now (text .entry)))))
-        × (Filled (now (up .entry)) (idsParents (linesOf (now (text .entry)))) (now (up .exit)) (length (idsParents (linesOf (now (text .entry))))))) ⌝ }
-    ensures marked { λ _. ⌜ Filled (now (marks .entry)) (bindNotes plain (linesOf (now (text .entry)))) (now (marks .exit)) (length (linesOf (now (text .entry)))) ⌝ }
+    ensures answer { λ r. ⌜ Wrote (now (out .entry)) 0 (unlines (bindDeclarators (readingOf (mode .0)) (linesOf (now (text .entry))))) (now (out .exit)) r ⌝ }
+    ensures tables { λ _. ⌜ (Filled (now (blocks .entry)) (blockIds (restsIn (joinedAt (mode .0)) (linesOf (now (text .entry))))) (now (blocks .exit)) (length (linesOf (now (text .entry)))))
+        × ((Filled (now (starts .entry)) (flagsOf (startsGo (cleaned (restsIn (joinedAt (mode .0)) (linesOf (now (text .entry))))) true)) (now (starts .exit)) (length (linesOf (now (text .entry)))))
+        × (Filled (now (up .entry)) (idsParents (restsIn (joinedAt (mode .0)) (linesOf (now (text .entry))))) (now (up .exit)) (length (idsParents (restsIn (joinedAt (mode .0)) (linesOf (now (text .entry)))))))) ⌝ }
+    ensures marked { λ _. ⌜ Filled (now (marks .entry)) (bindNotes (readingOf (mode .0)) (linesOf (now (text .entry)))) (now (marks .exit)) (length (linesOf (now (text .entry)))) ⌝ }
     ensures index { λ _. ⌜ (now (seen .exit) ≡ replicate (length (now (seen .entry))) 0) × (now (first .exit) ≡ replicate (length (now (first .entry))) 0) ⌝ }
     ensures ends { λ _. ⌜ Filled (now (ends .entry)) (endMarks 0 (linesOf (now (text .entry)))) (now (ends .exit)) (length (linesOf (now (text .entry)))) ⌝ }
 {
-    let n = place::place_lines(text, blocks, starts, up, ends);
+    let n = place::place_lines(text, reading::is_joined(mode), blocks, starts, up, ends);
     clear(marks, n);
     walk(text, own, ends, n, blocks, starts, seen, first, marks, out)
 }

@@ -24,17 +24,17 @@ use Rattle.reading.specs.Reading.{plain}
 use Rattle.calls.specs.declared.Made.{Made}
 use Rattle.calls.specs.declared.Made.the-variants as made
 use Rattle.calls.specs.Leaves.{Leaves, Parsed, store, other}
-use Rattle.calls.specs.LeavesOf.{parsedBy, parsedOf, startsBelow, leavesOf}
+use Rattle.calls.specs.LeavesOf.{parsedBy, parsedOf}
 use Rattle.calls.specs.Calls.{Item, Row, Walked, Step, end, skip, absorb, rowLines, climb, made, has, actsUp, readLater, storeStep, stepAt, walk}
 use Rattle.calls.specs.Inner.Steps.{absorbStep, PutAs, ends, puts}
 use Rattle.calls.specs.Inner.Later.{Noted, Spans}
-use Rattle.calls.specs.Inner.Tables.{ownerOf, ownersOf, rowsAt, walkAt, lineAt, Keeps, Stands, Placed, Foot, Peaked}
+use Rattle.calls.specs.Inner.Tables.{ownerOf, ownersOf, tabled, rowsAt, walkAt, lineAt, Keeps, Stands, Placed, Foot, Peaked}
 use Rattle.calls.proofs.Edges.{standing, given, given-length, apply-standing, walk-given, Passed, none-yet, onto, ownerBack, by-table, stands, WalkInv, edge-start, edge-skip, edge-absorb, edge-end, edge-top, edge-spent}
 use Rattle.calls.proofs.Owners.{owned}
 use Rattle.calls.proofs.Room.{valued, put-is, value-length, put-length}
 use Rattle.calls.proofs.Stacks.{LastLine, last-line, part-join, part-cons, part-set, snoc-front, snoc-last, owners-snoc, owners-rows, owner-back, lines-many}
 use Rattle.calls.proofs.StepLaws.{front-is}
-use Rattle.calls.proofs.Told.{Absorbs, step-absorbs, goodAct, Upright, upright, went, RowTold, Told, itemAt, walk-is, given-at, owned-at, many-at, block-at, told-at}
+use Rattle.calls.proofs.Told.{Absorbs, step-absorbs, goodAct, Upright, upright, went, RowTold, Told, itemAt, walk-is, given-at, owned-at, many-at, told-at}
 use Rattle.calls.proofs.WalkLaws.{ownersIn, row-stands, store-absorb, row-dropped, passed-length}
 
 -- ---- what a step in a lent buffer was, by what it gave back
@@ -68,7 +68,7 @@ put-out (puts l w) = wrote-length w ∙ l
 
 pub record ClimbAt (t : List ℕ) (n i f : ℕ) (bs fs owner₀ stack : List ℕ) (m : ℕ) (owner cur : List ℕ) (k p h c : ℕ) (over : Bool) (steps : ℕ)
     (left : ℕ) (rest back : List Row) (d : ℕ) (took : List ℕ) (lines : List (List ℕ)) (text : List ℕ) : Type 0 where
-  pub walks : WalkInv (leavesOf plain) (getD bs n 0) (λ v. readLater (leavesOf plain) v (linesOf (drop f t))) (walkAt t n) left rest back d over text took lines
+  pub walks : WalkInv (tabled bs fs) (getD bs n 0) (λ v. readLater (tabled bs fs) v (linesOf (drop f t))) (walkAt t bs fs n) left rest back d over text took lines
   pub last : left + steps ≡ 64
   pub up : d + k ≡ suc n
   pub told : Told bs fs rest
@@ -91,7 +91,7 @@ pub record ClimbAt (t : List ℕ) (n i f : ℕ) (bs fs owner₀ stack : List ℕ
 -- what does not change on the way
 pub record Ground (t : List ℕ) (n i : ℕ) (bs fs owner₀ : List ℕ) (m : ℕ) (cur₀ next₀ : List ℕ) : Type 0 where
   pub i≤ : i ≤ length t
-  pub given-is : given (walkAt t n .rows) ≡ take n (linesOf t)
+  pub given-is : given (walkAt t bs fs n .rows) ≡ take n (linesOf t)
   pub n-owner : n ≤ length owner₀
   pub n-blocks : n < length bs
   pub n-starts : n < length fs
@@ -131,20 +131,19 @@ pub record Turning (t : List ℕ) (n i f : ℕ) (bs fs owner₀ stack : List ℕ
 -- ---- at the foot
 
 pub climb-start : {t : List ℕ} {n i f : ℕ} {bs fs owner stack : List ℕ} {o size : ℕ} {cur next : List ℕ} {over : Bool} →
-    Keeps t n (rowsAt t n) owner stack o → Stands t n i f → Placed t bs fs → Foot t n over cur size →
+    Keeps t n (rowsAt t bs fs n) owner stack o → Stands t n i f → Placed t bs fs → Foot t n over cur size →
     o + size ≤ length cur → o + size ≤ length next →
     Climb t n i f bs fs owner stack (o + size) cur next owner cur next n i o size over 0
 unfolding climb unlines rowLines noLf ownersIn act made
 climb-start {t} {n} {i} {f} {bs} {fs} {owner} {stack} {o} {size} {cur} {next} {over} e s p q a b =
-    let w : walkAt t n ≡ walk (leavesOf plain) (getD bs n 0) (λ v. readLater (leavesOf plain) v (linesOf (drop f t))) climb (rowsAt t n) 1 over (lineAt t n) [] [] =
-    walk-is t n (s .within)
-    ∙ ap (λ (x : ℕ). walk (leavesOf plain) x (λ v. readLater (leavesOf plain) v (drop (suc n) (linesOf t))) climb (rowsAt t n) 1 (isHeader (lineAt t n)) (lineAt t n) [] []) (sym (block-at p n (s .within)))
-    ∙ ap (λ (x : List (List ℕ)). walk (leavesOf plain) (getD bs n 0) (λ v. readLater (leavesOf plain) v x) climb (rowsAt t n) 1 (isHeader (lineAt t n)) (lineAt t n) [] []) (sym (s .below))
-    ∙ ap (λ (x : Bool). walk (leavesOf plain) (getD bs n 0) (λ v. readLater (leavesOf plain) v (linesOf (drop f t))) climb (rowsAt t n) 1 x (lineAt t n) [] []) (sym (q .header)) in
-    let g : given (walkAt t n .rows) ≡ take n (linesOf t) =
-    ap (λ (x : Walked). given (x .rows)) w ∙ walk-given (leavesOf plain) (getD bs n 0) (λ v. readLater (leavesOf plain) v (linesOf (drop f t))) climb (rowsAt t n) 1 over (lineAt t n) [] [] ∙ given-at t n in
-    let st : apply (actsUp (rowsAt t n) []) (take n (linesOf t)) ≡ standing (rowsAt t n) =
-    ap (apply (actsUp (rowsAt t n) [])) (sym (given-at t n)) ∙ apply-standing (rowsAt t n) in
+    let w : walkAt t bs fs n ≡ walk (tabled bs fs) (getD bs n 0) (λ v. readLater (tabled bs fs) v (linesOf (drop f t))) climb (rowsAt t bs fs n) 1 over (lineAt t n) [] [] =
+    walk-is t bs fs n (s .within) (omega (arith, p .blocks-many, s .within))
+    ∙ ap (λ (x : List (List ℕ)). walk (tabled bs fs) (getD bs n 0) (λ v. readLater (tabled bs fs) v x) climb (rowsAt t bs fs n) 1 (isHeader (lineAt t n)) (lineAt t n) [] []) (sym (s .below))
+    ∙ ap (λ (x : Bool). walk (tabled bs fs) (getD bs n 0) (λ v. readLater (tabled bs fs) v (linesOf (drop f t))) climb (rowsAt t bs fs n) 1 x (lineAt t n) [] []) (sym (q .header)) in
+    let g : given (walkAt t bs fs n .rows) ≡ take n (linesOf t) =
+    ap (λ (x : Walked). given (x .rows)) w ∙ walk-given (tabled bs fs) (getD bs n 0) (λ v. readLater (tabled bs fs) v (linesOf (drop f t))) climb (rowsAt t bs fs n) 1 over (lineAt t n) [] [] ∙ given-at t bs fs n in
+    let st : apply (actsUp (rowsAt t bs fs n) []) (take n (linesOf t)) ≡ standing (rowsAt t bs fs n) =
+    ap (apply (actsUp (rowsAt t bs fs n) [])) (sym (given-at t bs fs n)) ∙ apply-standing (rowsAt t bs fs n) in
     let z : n ≤ length (linesOf t) = omega (arith, s .within) in
     record {
       ground = record {
@@ -160,20 +159,20 @@ climb-start {t} {n} {i} {f} {bs} {fs} {owner} {stack} {o} {size} {cur} {next} {o
       same-cur = refl;
       same-next = refl;
       left = climb;
-      rest = rowsAt t n;
+      rest = rowsAt t bs fs n;
       back = [];
       d = 1;
       took = [];
       lines = [];
       text = lineAt t n;
       at = record {
-        walks = subst (λ (x : Walked). WalkInv (leavesOf plain) (getD bs n 0) (λ v. readLater (leavesOf plain) v (linesOf (drop f t))) x climb (rowsAt t n) [] 1 over (lineAt t n) [] []) (sym w) (edge-start (leavesOf plain) (getD bs n 0) (λ v. readLater (leavesOf plain) v (linesOf (drop f t))) (rowsAt t n) over (lineAt t n));
+        walks = subst (λ (x : Walked). WalkInv (tabled bs fs) (getD bs n 0) (λ v. readLater (tabled bs fs) v (linesOf (drop f t))) x climb (rowsAt t bs fs n) [] 1 over (lineAt t n) [] []) (sym w) (edge-start (tabled bs fs) (getD bs n 0) (λ v. readLater (tabled bs fs) v (linesOf (drop f t))) (rowsAt t bs fs n) over (lineAt t n));
         last = omega arith;
         up = omega arith;
         told = told-at p n z;
-        own = owned-at t n;
-        many = many-at t n z;
-        above = s .above ∙ ap unlines (sym (given-at t n));
+        own = owned-at t bs fs n;
+        many = many-at t bs fs n z;
+        above = s .above ∙ ap unlines (sym (given-at t bs fs n));
         p≤ = omega arith;
         between = part-none t i;
         clear = refl;
@@ -202,9 +201,9 @@ owners-onto (r ∷ back) rest =
 module _ {t : List ℕ} {n i f : ℕ} {bs fs owner₀ stack : List ℕ} {m : ℕ} {cur₀ next₀ owner cur : List ℕ} {k p h c : ℕ} {over : Bool} {steps left : ℕ} {rest back : List Row} {d : ℕ} {took : List ℕ}
     {lines : List (List ℕ)} {text : List ℕ} (g : Ground t n i bs fs owner₀ m cur₀ next₀) (s : length owner ≡ length owner₀) (u : length cur ≡ length cur₀)
     (a : ClimbAt t n i f bs fs owner₀ stack m owner cur k p h c over steps left rest back d took lines text) where
-  peak : walkAt t n ≡ record { act = made took text; rows = onto back rest } → Peaked t n owner₀ owner stack cur h c m
+  peak : walkAt t bs fs n ≡ record { act = made took text; rows = onto back rest } → Peaked t bs fs n owner₀ owner stack cur h c m
   peak e =
-      let rows : List Row = walkAt t n .rows in
+      let rows : List Row = walkAt t bs fs n .rows in
       let r : rows ≡ onto back rest = ap (λ (x : Walked). x .rows) e in
       let z : n ≡ k + (n - k) = omega (arith, a .up, passed-d) in
       record {
@@ -230,18 +229,18 @@ module _ {t : List ℕ} {n i f : ℕ} {bs fs owner₀ stack : List ℕ} {m : ℕ
 module _ {t : List ℕ} {n i f : ℕ} {bs fs owner₀ stack : List ℕ} {m : ℕ} {cur₀ next₀ owner cur next : List ℕ} {k p h c : ℕ} {over : Bool} {steps : ℕ}
     (v : Climb t n i f bs fs owner₀ stack m cur₀ next₀ owner cur next k p h c over steps) where
   -- no step is left
-  climb-spent : 64 ≤ steps → Peaked t n owner₀ owner stack cur h c m
+  climb-spent : 64 ≤ steps → Peaked t bs fs n owner₀ owner stack cur h c m
   climb-spent z = go (v .left) (v .at)
     where
-      go : (left : ℕ) → ClimbAt t n i f bs fs owner₀ stack m owner cur k p h c over steps left (v .rest) (v .back) (v .d) (v .took) (v .lines) (v .text) → Peaked t n owner₀ owner stack cur h c m
+      go : (left : ℕ) → ClimbAt t n i f bs fs owner₀ stack m owner cur k p h c over steps left (v .rest) (v .back) (v .d) (v .took) (v .lines) (v .text) → Peaked t bs fs n owner₀ owner stack cur h c m
       go zero a = peak (v .ground) (v .same-owner) (v .same-cur) a (edge-spent (a .walks))
       go (suc left) a = absurd (omega (arith, a .last))
 
   -- no row is left
-  climb-top : steps < 64 → k ≡ 0 → Peaked t n owner₀ owner stack cur h c m
+  climb-top : steps < 64 → k ≡ 0 → Peaked t bs fs n owner₀ owner stack cur h c m
   climb-top z e = go (v .left) (v .rest) (v .at)
     where
-      go : (left : ℕ) (rest : List Row) → ClimbAt t n i f bs fs owner₀ stack m owner cur k p h c over steps left rest (v .back) (v .d) (v .took) (v .lines) (v .text) → Peaked t n owner₀ owner stack cur h c m
+      go : (left : ℕ) (rest : List Row) → ClimbAt t n i f bs fs owner₀ stack m owner cur k p h c over steps left rest (v .back) (v .d) (v .took) (v .lines) (v .text) → Peaked t bs fs n owner₀ owner stack cur h c m
       go zero rest a = absurd (omega (arith, a .last))
       go (suc left) [] a = peak (v .ground) (v .same-owner) (v .same-cur) a (edge-top (a .walks))
       go (suc left) (r ∷ rs) a = absurd (omega (arith, a .many))
@@ -276,10 +275,10 @@ module _ {t : List ℕ} {n i f : ℕ} {bs fs owner₀ stack : List ℕ} {m : ℕ
   pub climb-in : ltb 0 k && ltb steps 64 ≡ true → Turning t n i f bs fs owner₀ stack m cur₀ next₀ owner cur next k p h c over steps
   climb-in e = climb-turn v (ltb-true steps 64 (and-right (ltb 0 k) (ltb steps 64) e)) (λ z. omega (arith, ltb-true 0 k (and-left (ltb 0 k) (ltb steps 64) e)))
 
-  pub climb-out : ltb 0 k && ltb steps 64 ≡ false → Peaked t n owner₀ owner stack cur h c m
+  pub climb-out : ltb 0 k && ltb steps 64 ≡ false → Peaked t bs fs n owner₀ owner stack cur h c m
   climb-out e = go (ltb 0 k) refl (ltb steps 64) refl e
     where
-      go : (x : Bool) → ltb 0 k ≡ x → (y : Bool) → ltb steps 64 ≡ y → x && y ≡ false → Peaked t n owner₀ owner stack cur h c m
+      go : (x : Bool) → ltb 0 k ≡ x → (y : Bool) → ltb steps 64 ≡ y → x && y ≡ false → Peaked t bs fs n owner₀ owner stack cur h c m
       go x a false b z = climb-spent v (ltb-false steps 64 b)
       go false a true b z = climb-top v (ltb-true steps 64 b) (let w = ltb-false 0 k a in omega arith)
       go true a true b z = no (sym z)
@@ -367,7 +366,7 @@ module _ {t : List ℕ} {n i f : ℕ} {bs fs owner₀ stack : List ℕ} {m : ℕ
     unfolding noLf
     clear-on = and-both (told-here .clear) (v .at .clear)
 
-    over-on : (x : List ℕ) → x ≡ part q (p - 1) t → (r : Bool) → r ≡ isHeader x → (over || r) ≡ (over || leavesOf plain .header (v .row .item .line))
+    over-on : (x : List ℕ) → x ≡ part q (p - 1) t → (r : Bool) → r ≡ isHeader x → (over || r) ≡ (over || isHeader (v .row .item .line))
     over-on x e r y = ap (λ (b : Bool). over || b) (y ∙ ap isHeader (e ∙ text-line q z .line))
 
   -- ---- a row that was dropped
@@ -401,12 +400,12 @@ module _ {t : List ℕ} {n i f : ℕ} {bs fs owner₀ stack : List ℕ} {m : ℕ
         by-table (v .at .walks .past) to l ∙ ap (λ (x : ℕ). eqb x (v .d - suc to)) y ∙ ap (eqb (getD owner (k - 1 + getD owner (k - 1) 0) 0)) w ∙ sym e
 
     -- its owner is not this walk's
-    pub drop-end : (r : Bool) → r ≡ eqb (getD owner (k - 1 + getD owner (k - 1) 0) 0) (n - (k - 1 + getD owner (k - 1) 0)) → r ≡ false → Peaked t n owner₀ owner stack cur h c m
+    pub drop-end : (r : Bool) → r ≡ eqb (getD owner (k - 1 + getD owner (k - 1) 0) 0) (n - (k - 1 + getD owner (k - 1) 0)) → r ≡ false → Peaked t bs fs n owner₀ owner stack cur h c m
     unfolding stepAt
     drop-end r e y =
         peak (v .ground) (v .same-owner) (v .same-cur) (v .at)
         (edge-end (v .at .walks)
-        (ap (λ (x : Act). stepAt (leavesOf plain) (getD bs n 0) (λ u. readLater (leavesOf plain) u (linesOf (drop f t))) x (v .row .item) (v .d) over (v .text) (v .took) (v .lines) (rowLines (v .rest))) went-here
+        (ap (λ (x : Act). stepAt (tabled bs fs) (getD bs n 0) (λ u. readLater (tabled bs fs) u (linesOf (drop f t))) x (v .row .item) (v .d) over (v .text) (v .took) (v .lines) (rowLines (v .rest))) went-here
         ∙ ap (λ (x : Bool). cond x skip end) (ours-is r e ∙ y)))
 
     -- it is
@@ -429,7 +428,7 @@ module _ {t : List ℕ} {n i f : ℕ} {bs fs owner₀ stack : List ℕ} {m : ℕ
           lines = v .lines;
           text = v .text;
           at = record {
-            walks = subst (λ (o : Bool). WalkInv (leavesOf plain) (getD bs n 0) (λ u. readLater (leavesOf plain) u (linesOf (drop f t))) (walkAt t n) (v .left) (v .rest) (v .row ∷ v .back) (suc (v .d)) o (v .text) (v .took) (v .lines)) (sym (over-on q z x a b s)) (edge-skip (v .at .walks) (suc to) went-here (ours-is r e ∙ y));
+            walks = subst (λ (o : Bool). WalkInv (tabled bs fs) (getD bs n 0) (λ u. readLater (tabled bs fs) u (linesOf (drop f t))) (walkAt t bs fs n) (v .left) (v .rest) (v .row ∷ v .back) (suc (v .d)) o (v .text) (v .took) (v .lines)) (sym (over-on q z x a b s)) (edge-skip (v .at .walks) (suc to) went-here (ours-is r e ∙ y));
             last = omega (arith, v .at .last);
             up = omega (arith, v .at .up, one-less);
             told = told-above;
@@ -469,12 +468,12 @@ module _ {t : List ℕ} {n i f : ℕ} {bs fs owner₀ stack : List ℕ} {m : ℕ
 
     -- the step that the definition takes here
     abbrev step-here : Step
-    step-here = stepAt (leavesOf plain) (getD bs n 0) (λ u. readLater (leavesOf plain) u (linesOf (drop f t))) (v .row .act) (v .row .item) (v .d) over (v .text) (v .took) (v .lines) (rowLines (v .rest))
+    step-here = stepAt (tabled bs fs) (getD bs n 0) (λ u. readLater (tabled bs fs) u (linesOf (drop f t))) (v .row .act) (v .row .item) (v .d) over (v .text) (v .took) (v .lines) (rowLines (v .rest))
 
-    store-here : step-here ≡ storeStep (leavesOf plain) (getD bs n 0) (λ u. readLater (leavesOf plain) u (linesOf (drop f t))) (parsedOf (up-row .text)) over (v .text) (v .lines) (v .row .item .block) (rowLines (v .rest))
-    store-here = row-stands (leavesOf plain) (getD bs n 0) (λ u. readLater (leavesOf plain) u (linesOf (drop f t))) (v .row .act) (v .row .item) (up-row .text) (v .d) over (v .text) (v .took) (v .lines) (rowLines (v .rest)) (up-row .is)
+    store-here : step-here ≡ storeStep (tabled bs fs) (getD bs n 0) (λ u. readLater (tabled bs fs) u (linesOf (drop f t))) (parsedOf (up-row .text)) over (v .text) (v .lines) (v .row .item .block) (rowLines (v .rest))
+    store-here = row-stands (tabled bs fs) (getD bs n 0) (λ u. readLater (tabled bs fs) u (linesOf (drop f t))) (v .row .act) (v .row .item) (up-row .text) (v .d) over (v .text) (v .took) (v .lines) (rowLines (v .rest)) (up-row .is)
 
-    step-end : step-here ≡ end → Peaked t n owner₀ owner stack cur h c m
+    step-end : step-here ≡ end → Peaked t bs fs n owner₀ owner stack cur h c m
     step-end e = peak (v .ground) (v .same-owner) (v .same-cur) (v .at) (edge-end (v .at .walks) e)
 
     module _ (b : ℕ) (z : b ≡ lineStart stack (h - 1)) (w : List ℕ) (e : w ≡ part b (h - 1) stack) where
@@ -482,10 +481,10 @@ module _ {t : List ℕ} {n i f : ℕ} {bs fs owner₀ stack : List ℕ} {m : ℕ
       text-here = e ∙ stack-line b z .line
 
       -- it is no store
-      pub other-end : parsedBy w (parseOf w) ≡ other → Peaked t n owner₀ owner stack cur h c m
+      pub other-end : parsedBy w (parseOf w) ≡ other → Peaked t bs fs n owner₀ owner stack cur h c m
       unfolding storeStep parsedOf
       other-end y =
-          step-end (store-here ∙ ap (λ (x : Parsed). storeStep (leavesOf plain) (getD bs n 0) (λ u. readLater (leavesOf plain) u (linesOf (drop f t))) x over (v .text) (v .lines) (v .row .item .block) (rowLines (v .rest)))
+          step-end (store-here ∙ ap (λ (x : Parsed). storeStep (tabled bs fs) (getD bs n 0) (λ u. readLater (tabled bs fs) u (linesOf (drop f t))) x over (v .text) (v .lines) (v .row .item .block) (rowLines (v .rest)))
           (ap parsedOf (sym text-here) ∙ y))
 
       -- it is one
@@ -495,18 +494,18 @@ module _ {t : List ℕ} {n i f : ℕ} {bs fs owner₀ stack : List ℕ} {m : ℕ
         parsed-here = ap parsedOf (sym text-here) ∙ ap (parsedBy w) y ∙ ap (store (s .reg .0)) (sym u)
 
         absorb-here : step-here
-            ≡ cond (not over && (eqb (v .row .item .block) (getD bs n 0) && startsBelow plain (rowLines (v .rest)))) (absorbStep plain (v .text) (s .reg .0) val (linesOf (drop f t)) (rowLines (v .back)) (ownersIn (v .back))) end
-        absorb-here = store-here ∙ store-absorb plain (getD bs n 0) (linesOf (drop f t)) (v .at .walks .past) (up-row .text) (s .reg .0) val parsed-here over (v .text) (v .row .item .block) (rowLines (v .rest))
+            ≡ cond (not over && (eqb (v .row .item .block) (getD bs n 0) && tabled bs fs .starts (rowLines (v .rest)))) (absorbStep plain (v .text) (s .reg .0) val (linesOf (drop f t)) (rowLines (v .back)) (ownersIn (v .back))) end
+        absorb-here = store-here ∙ store-absorb (tabled bs fs .starts) (tabled bs fs .blocks) (getD bs n 0) (linesOf (drop f t)) (v .at .walks .past) (up-row .text) (s .reg .0) val parsed-here over (v .text) (v .row .item .block) (rowLines (v .rest))
 
         module _ (may : Bool) (j : may ≡ not over && (eqb (getD bs (k - 1) 0) (getD bs n 0) && eqb (getD fs (k - 1) 0) 1)) where
-          may-is : may ≡ not over && (eqb (v .row .item .block) (getD bs n 0) && startsBelow plain (rowLines (v .rest)))
+          may-is : may ≡ not over && (eqb (v .row .item .block) (getD bs n 0) && tabled bs fs .starts (rowLines (v .rest)))
           may-is =
               j
               ∙ ap (λ (x : ℕ). not over && (eqb x (getD bs n 0) && eqb (getD fs (k - 1) 0) 1)) (ap (λ (x : ℕ). getD bs x 0) (sym index) ∙ told-here .block)
-              ∙ ap (λ (x : Bool). not over && (eqb (v .row .item .block) (getD bs n 0) && x)) (ap (λ (x : ℕ). eqb (getD fs x 0) 1) (sym index) ∙ told-here .start)
+              ∙ ap (λ (x : Bool). not over && (eqb (v .row .item .block) (getD bs n 0) && x)) (ap (λ (x : ℕ). eqb (getD fs x 0) 1) (sym index))
 
           -- region, block or start of statement do not let it go
-          pub may-end : may ≡ false → Peaked t n owner₀ owner stack cur h c m
+          pub may-end : may ≡ false → Peaked t bs fs n owner₀ owner stack cur h c m
           may-end q = step-end (absorb-here ∙ ap (λ (x : Bool). cond x (absorbStep plain (v .text) (s .reg .0) val (linesOf (drop f t)) (rowLines (v .back)) (ownersIn (v .back))) end) (sym may-is ∙ q))
 
           module _ (q : may ≡ true) (cc₀ ll bb : List ℕ) (e₁ : cc₀ ≡ part 0 c cur) (e₂ : ll ≡ part f (length t) t) (e₃ : bb ≡ part p i t) where
@@ -534,7 +533,7 @@ module _ {t : List ℕ} {n i f : ℕ} {bs fs owner₀ stack : List ℕ} {m : ℕ
 
             module _ {next′ : List ℕ} {r : Made} (o : PutAs next step-code next′ r) where
               -- it could not be put in
-              pub none-end : r ≡ made.Nothing → Peaked t n owner₀ owner stack cur h c m
+              pub none-end : r ≡ made.Nothing → Peaked t bs fs n owner₀ owner stack cur h c m
               none-end x = step-end (step-is ∙ put-end o x)
 
               module _ {size : ℕ} (x : r ≡ made.Line size) (new : List ℕ) (e₄ : new ≡ part 0 size next′) where
@@ -550,9 +549,9 @@ module _ {t : List ℕ} {n i f : ℕ} {bs fs owner₀ stack : List ℕ} {m : ℕ
                 -- the line that was made is no longer than it and what went
                 new-less : length new ≤ c + length (up-row .text) + 1
                 new-less =
-                    let a = step-absorbs (leavesOf plain) (getD bs n 0) (λ u. readLater (leavesOf plain) u (linesOf (drop f t))) (v .row .act) (v .row .item) (v .d) over (v .text) (v .took) (v .lines) (rowLines (v .rest)) (out .next) step-new in
+                    let a = step-absorbs (tabled bs fs) (getD bs n 0) (λ u. readLater (tabled bs fs) u (linesOf (drop f t))) (v .row .act) (v .row .item) (v .d) over (v .text) (v .took) (v .lines) (rowLines (v .rest)) (out .next) step-new in
                     let y : length (a .t) ≡ length (up-row .text) = ap (λ (l : List (List ℕ)). length (getD l 0 [])) (sym (a .stands) ∙ up-row .is) in
-                    omega (arith, put-length (v .text) (a .t) (a .reg) (a .value) (out .next) (valued (a .t) (a .reg) (a .value) (a .parses)) (put-is plain (v .text) (a .reg) (a .value) (out .next) (a .puts)), ap length new-is, v .at .sized)
+                    omega (arith, put-length (v .text) (a .t) (a .reg) (a .value) (out .next) (valued (a .t) (a .reg) (a .value) (a .parses)) (put-is (tabled bs fs .starts) (tabled bs fs .blocks) (v .text) (a .reg) (a .value) (out .next) (a .puts)), ap length new-is, v .at .sized)
 
                 pub new-room : 0 + length new ≤ length cur
                 new-room = let a = stack-line b z .whole in omega (arith, new-less, v .at .room, v .ground .m-cur, v .same-cur)
@@ -580,7 +579,7 @@ module _ {t : List ℕ} {n i f : ℕ} {bs fs owner₀ stack : List ℕ} {m : ℕ
                       lines = v .row .item .line ∷ v .lines;
                       text = out .next;
                       at = record {
-                        walks = subst (λ (o : Bool). WalkInv (leavesOf plain) (getD bs n 0) (λ u. readLater (leavesOf plain) u (linesOf (drop f t))) (walkAt t n) (v .left) (v .rest) (record { item = v .row .item; act = into (v .d) } ∷ v .back) (suc (v .d)) o (out .next) (v .d ∷ v .took) (v .row .item .line ∷ v .lines)) (sym (over-on q z₁ a e₅ hd e₆)) (edge-absorb (v .at .walks) (out .next) step-new);
+                        walks = subst (λ (o : Bool). WalkInv (tabled bs fs) (getD bs n 0) (λ u. readLater (tabled bs fs) u (linesOf (drop f t))) (walkAt t bs fs n) (v .left) (v .rest) (record { item = v .row .item; act = into (v .d) } ∷ v .back) (suc (v .d)) o (out .next) (v .d ∷ v .took) (v .row .item .line ∷ v .lines)) (sym (over-on q z₁ a e₅ hd e₆)) (edge-absorb (v .at .walks) (out .next) step-new);
                         last = omega (arith, v .at .last);
                         up = omega (arith, v .at .up, one-less);
                         told = told-above;
@@ -617,7 +616,7 @@ module _ {t : List ℕ} {n i f : ℕ} {bs fs owner₀ stack : List ℕ} {m : ℕ
   row-line : v .row .item .line ≡ lineAt t (k - 1)
   unfolding given
   row-line =
-      let L = leavesOf plain in
+      let L = tabled bs fs in
       let later : ℕ → Bool = λ u. readLater L u (linesOf (drop f t)) in
       let x : List Row = v .row ∷ v .rest in
       let a : given (v .rest) ++ (v .row .item .line ∷ rowLines (v .back)) ≡ take n (linesOf t) =

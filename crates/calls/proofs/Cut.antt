@@ -1,4 +1,4 @@
--- The law of demand 3 for rebuild_calls: a listing may be cut above a header. Assumes nothing.
+-- The law of demand 3 for rebuild_calls: a listing may be cut above a header, where the lines above it end shut. Assumes nothing.
 use Prim.Native.Nat.{ℕ, zero, suc, _+_, _-_}
 use mathlib.Core.Path.{_≡_, refl, sym, ap, _∙_, fun-ext}
 use mathlib.Core.Bool.{Bool, true, false, cond, not, _&&_, _||_}
@@ -50,80 +50,74 @@ pub walk-step : (L : Leaves) (b : ℕ) (later : ℕ → Bool) (left : ℕ) (r : 
 unfolding walk
 walk-step L b later left r rs d over cur took lines = refl
 
--- What the law asks of the leaves: a header is no store, and the look back for the start of a statement does not pass one.
+-- What the law asks of the leaves: a header is no store, and the look back for the start of a statement does not pass one, where the rows above it are good.
 module _
     (L : Leaves)
     (header-other : (l : List ℕ) → L .header l ≡ true → L .parse l ≡ other)
-    (starts-above : (xs : List (List ℕ)) (l : List ℕ) (ys : List (List ℕ)) → L .header l ≡ true → L .starts (xs ++ l ∷ ys) ≡ L .starts (xs ++ l ∷ []))
+    (Good : List Row → Type 0)
     (h : Item)
     (e : L .header (h .line) ≡ true)
+    (starts-rows : (rs ss : List Row) → Good ss → L .starts (rowLines (rs ++ kept h ∷ ss)) ≡ L .starts (rowLines (rs ++ kept h ∷ [])))
   where
-    starts-rows : (rs ss : List Row) → L .starts (rowLines (rs ++ kept h ∷ ss)) ≡ L .starts (rowLines (rs ++ kept h ∷ []))
-    unfolding rowLines
-    starts-rows rs ss =
-        ap (L .starts) (lines-append rs (kept h ∷ ss))
-        ∙ starts-above (rowLines rs) (h .line) (rowLines ss) e
-        ∙ sym (ap (L .starts) (lines-append rs (kept h ∷ [])))
-
     -- a walk that starts below the header: whatever stands above the header, it leaves it, and it does the same
     record WalkCut (b : ℕ) (later : ℕ → Bool) (left : ℕ) (rs : List Row) (d : ℕ) (over : Bool) (cur took : List ℕ) (lines : List (List ℕ)) : Type 0 where
       act : Act
       rows : List Row
-      is : (ss : List Row) → walk L b later left (rs ++ kept h ∷ ss) d over cur took lines ≡ record { act = act; rows = rows ++ kept h ∷ ss }
+      is : (ss : List Row) → Good ss → walk L b later left (rs ++ kept h ∷ ss) d over cur took lines ≡ record { act = act; rows = rows ++ kept h ∷ ss }
 
     walk-cut : (b : ℕ) (later : ℕ → Bool) (left : ℕ) (rs : List Row) (d : ℕ) (over : Bool) (cur took : List ℕ) (lines : List (List ℕ)) → WalkCut b later left rs d over cur took lines
     unfolding walk
-    walk-cut b later zero rs d over cur took lines = record { act = made took cur; rows = rs; is = λ ss. refl }
-    walk-cut b later (suc left) [] d over cur took lines = record { act = made took cur; rows = []; is = λ ss. rw (header-other (h .line) e) }
+    walk-cut b later zero rs d over cur took lines = record { act = made took cur; rows = rs; is = λ ss g. refl }
+    walk-cut b later (suc left) [] d over cur took lines = record { act = made took cur; rows = []; is = λ ss g. rw (header-other (h .line) e) }
     walk-cut b later (suc left) (r ∷ rs) d over cur took lines =
         go (stepAt L b later (r .act) (r .item) d over cur took lines (rowLines (rs ++ kept h ∷ [])))
-        (λ ss. step-above L b later (starts-rows rs ss) (r .act) (r .item) d over cur took lines)
+        (λ ss g. step-above L b later (starts-rows rs ss g) (r .act) (r .item) d over cur took lines)
         (walk-cut b later left rs (suc d) (over || L .header (r .item .line)) cur took lines)
         (λ next. walk-cut b later left rs (suc d) (over || L .header (r .item .line)) next (d ∷ took) (r .item .line ∷ lines))
       where
         go : (s : Step)
-            → ((ss : List Row) → stepAt L b later (r .act) (r .item) d over cur took lines (rowLines (rs ++ kept h ∷ ss)) ≡ s)
+            → ((ss : List Row) → Good ss → stepAt L b later (r .act) (r .item) d over cur took lines (rowLines (rs ++ kept h ∷ ss)) ≡ s)
             → WalkCut b later left rs (suc d) (over || L .header (r .item .line)) cur took lines
             → ((next : List ℕ) → WalkCut b later left rs (suc d) (over || L .header (r .item .line)) next (d ∷ took) (r .item .line ∷ lines))
             → WalkCut b later (suc left) (r ∷ rs) d over cur took lines
-        go end q c k = record { act = made took cur; rows = r ∷ rs; is = λ ss. walk-step L b later left r (rs ++ kept h ∷ ss) d over cur took lines ∙ rw (q ss) }
+        go end q c k = record { act = made took cur; rows = r ∷ rs; is = λ ss g. walk-step L b later left r (rs ++ kept h ∷ ss) d over cur took lines ∙ rw (q ss g) }
         go skip q c k =
             record {
               act = c .act;
               rows = r ∷ c .rows;
-              is = λ ss. walk-step L b later left r (rs ++ kept h ∷ ss) d over cur took lines ∙ rw (q ss) (ap (pass (r .item) (r .act)) (c .is ss));
+              is = λ ss g. walk-step L b later left r (rs ++ kept h ∷ ss) d over cur took lines ∙ rw (q ss g) (ap (pass (r .item) (r .act)) (c .is ss g));
             }
         go (absorb next) q c k =
             record {
               act = (k next) .act;
               rows = record { item = r .item; act = into d } ∷ (k next) .rows;
-              is = λ ss. walk-step L b later left r (rs ++ kept h ∷ ss) d over cur took lines ∙ rw (q ss) (ap (pass (r .item) (into d)) ((k next) .is ss));
+              is = λ ss g. walk-step L b later left r (rs ++ kept h ∷ ss) d over cur took lines ∙ rw (q ss g) (ap (pass (r .item) (into d)) ((k next) .is ss g));
             }
 
     record RowsCut (f : List Row → List Row) : Type 0 where
       rows : List Row
-      is : (ss : List Row) → f ss ≡ rows ++ kept h ∷ ss
+      is : (ss : List Row) → Good ss → f ss ≡ rows ++ kept h ∷ ss
 
     turn-cut : (x : Item) (below : List (List ℕ)) (rs : List Row) → RowsCut (λ ss. turn L x below (rs ++ kept h ∷ ss))
     unfolding turn
     turn-cut x below rs =
-        go (tries L (x .line) (rs ++ kept h ∷ [])) (λ ss. ap (λ (s : Bool). L .call (x .line) && (s && not (L .control (x .line)))) (starts-rows rs ss))
+        go (tries L (x .line) (rs ++ kept h ∷ [])) (λ ss g. ap (λ (s : Bool). L .call (x .line) && (s && not (L .control (x .line)))) (starts-rows rs ss g))
         (walk-cut (x .block) (λ v. readLater L v below) climb rs 1 (L .header (x .line)) (x .line) [] [])
       where
         go : (t : Bool)
-            → ((ss : List Row) → tries L (x .line) (rs ++ kept h ∷ ss) ≡ t)
+            → ((ss : List Row) → Good ss → tries L (x .line) (rs ++ kept h ∷ ss) ≡ t)
             → WalkCut (x .block) (λ v. readLater L v below) climb rs 1 (L .header (x .line)) (x .line) [] []
             → RowsCut (λ ss. turn L x below (rs ++ kept h ∷ ss))
-        go true q c = record { rows = record { item = x; act = c .act } ∷ c .rows; is = λ ss. rw (q ss) (ap (settleRow L x) (c .is ss)) }
-        go false q c = record { rows = kept x ∷ rs; is = λ ss. rw (q ss) }
+        go true q c = record { rows = record { item = x; act = c .act } ∷ c .rows; is = λ ss g. rw (q ss g) (ap (settleRow L x) (c .is ss g)) }
+        go false q c = record { rows = kept x ∷ rs; is = λ ss g. rw (q ss g) }
 
     rows-cut : (xs : List Item) (rs : List Row) → RowsCut (λ ss. rowsOf L xs (rs ++ kept h ∷ ss))
     unfolding rowsOf
-    rows-cut [] rs = record { rows = rs; is = λ ss. refl }
+    rows-cut [] rs = record { rows = rs; is = λ ss g. refl }
     rows-cut (x ∷ xs) rs =
         let c = turn-cut x (linesOn xs) rs in
         let k = rows-cut xs (c .rows) in
-        record { rows = k .rows; is = λ ss. ap (rowsOf L xs) (c .is ss) ∙ k .is ss }
+        record { rows = k .rows; is = λ ss g. ap (rowsOf L xs) (c .is ss g) ∙ k .is ss g }
 
     -- the header itself takes nothing: the line above it is in another region
     over-end : (b : ℕ) (later : ℕ → Bool) (p : Parsed) (cur : List ℕ) (lines : List (List ℕ)) (blk : ℕ) (above : List (List ℕ)) → storeStep L b later p true cur lines blk above ≡ end
@@ -174,14 +168,14 @@ module _
         ∙ rows-upper us ts (turn L x (linesOn us) rs)
 
     -- the law over rows, the nearest first
-    pub rows-law : (us ts : List Item) → rowsOf L (us ++ h ∷ ts) [] ≡ rowsOf L (h ∷ ts) [] ++ rowsOf L us []
+    pub rows-law : (us ts : List Item) → Good (rowsOf L us []) → Good [] → rowsOf L (us ++ h ∷ ts) [] ≡ rowsOf L (h ∷ ts) [] ++ rowsOf L us []
     unfolding rowsOf
-    rows-law us ts =
+    rows-law us ts gu gn =
         let c = rows-cut ts [] in
         rows-upper us ts []
-        ∙ c .is (rowsOf L us [])
+        ∙ c .is (rowsOf L us []) gu
         ∙ sym (append-assoc (c .rows) (kept h ∷ []) (rowsOf L us []))
-        ∙ ap (λ (q : List Row). q ++ rowsOf L us []) (sym (ap (rowsOf L ts) (turn-head (linesOn ts) []) ∙ c .is []))
+        ∙ ap (λ (q : List Row). q ++ rowsOf L us []) (sym (ap (rowsOf L ts) (turn-head (linesOn ts) []) ∙ c .is [] gn))
 
 -- ---- from rows to acts
 
@@ -370,10 +364,16 @@ unfoldable pub headed : Leaves → List (List ℕ) → Bool
 headed L [] = false
 headed L (l ∷ ls) = L .header l
 
--- what the law asks of the leaves
+-- the lines of a listing as the rows have them, the nearest first
+abbrev pub rowsUp : Leaves → List (List ℕ) → List (List ℕ)
+rowsUp L ls = rowLines (rowsOf L (itemsOf ls (L .blocks ls)) [])
+
+-- what the law asks of the leaves; the lines that may be `shut` are given the nearest first
 pub record Cuttable (L : Leaves) : Type 0 where
   pub header-other : (l : List ℕ) → L .header l ≡ true → L .parse l ≡ other
-  pub starts-above : (xs : List (List ℕ)) (l : List ℕ) (ys : List (List ℕ)) → L .header l ≡ true → L .starts (xs ++ l ∷ ys) ≡ L .starts (xs ++ l ∷ [])
+  pub shut : List (List ℕ) → Bool
+  pub shut-none : shut [] ≡ true
+  pub starts-above : (xs : List (List ℕ)) (l : List ℕ) (ys : List (List ℕ)) → L .header l ≡ true → shut ys ≡ true → L .starts (xs ++ l ∷ ys) ≡ L .starts (xs ++ l ∷ [])
   pub blocks-length : (ls : List (List ℕ)) → length (L .blocks ls) ≡ length ls
 
 -- the tail's blocks are those of the tail alone, under other numbers: what the brace condition gives
@@ -383,30 +383,45 @@ pub record Renumbered (L : Leaves) (upper tail : List (List ℕ)) : Type 0 where
   pub blocks : L .blocks (upper ++ tail) ≡ L .blocks upper ++ renamed name (L .blocks tail)
 
 module _ (L : Leaves) (c : Cuttable L) where
-  items-law : (f : ℕ → ℕ) → ((x y : ℕ) → eqb (f x) (f y) ≡ eqb x y) → (us : List Item) (h : Item) (ts : List Item) → L .header (h .line) ≡ true
+  -- rows whose lines end shut are good
+  abbrev Good : List Row → Type 0
+  Good ss = c .shut (rowLines ss) ≡ true
+
+  starts-rows : (h : Item) → L .header (h .line) ≡ true → (rs ss : List Row) → Good ss → L .starts (rowLines (rs ++ kept h ∷ ss)) ≡ L .starts (rowLines (rs ++ kept h ∷ []))
+  unfolding rowLines
+  starts-rows h e rs ss g =
+      ap (L .starts) (lines-append rs (kept h ∷ ss))
+      ∙ c .starts-above (rowLines rs) (h .line) (rowLines ss) e g
+      ∙ sym (ap (L .starts) (lines-append rs (kept h ∷ [])))
+
+  good-none : Good []
+  unfolding rowLines
+  good-none = c .shut-none
+
+  items-law : (f : ℕ → ℕ) → ((x y : ℕ) → eqb (f x) (f y) ≡ eqb x y) → (us : List Item) (h : Item) (ts : List Item) → L .header (h .line) ≡ true → Good (rowsOf L us [])
       → actsUp (rowsOf L (us ++ reItems f (h ∷ ts)) []) [] ≡ actsUp (rowsOf L us []) [] ++ actsUp (rowsOf L (h ∷ ts) []) []
   unfolding reItems reRows
-  items-law f one us h ts e =
-      ap (λ (rs : List Row). actsUp rs []) (rows-law L (c .header-other) (c .starts-above) (reItem f h) e us (reItems f ts))
+  items-law f one us h ts e g =
+      ap (λ (rs : List Row). actsUp rs []) (rows-law L (c .header-other) Good (reItem f h) e (starts-rows (reItem f h) e) us (reItems f ts) g good-none)
       ∙ ap (λ (rs : List Row). actsUp (rs ++ rowsOf L us []) []) (re-rows L f one (h ∷ ts) [])
       ∙ acts-append (reRows f (rowsOf L (h ∷ ts) [])) (rowsOf L us []) []
       ∙ ap (actsUp (rowsOf L us [])) (re-acts L f one (rowsOf L (h ∷ ts) []) [])
       ∙ acts-more (rowsOf L us []) (actsUp (rowsOf L (h ∷ ts) []) [])
 
-  tail-law : (f : ℕ → ℕ) → ((x y : ℕ) → eqb (f x) (f y) ≡ eqb x y) → (us : List Item) (tail : List (List ℕ)) (bs : List ℕ) → length bs ≡ length tail → headed L tail ≡ true
+  tail-law : (f : ℕ → ℕ) → ((x y : ℕ) → eqb (f x) (f y) ≡ eqb x y) → (us : List Item) (tail : List (List ℕ)) (bs : List ℕ) → length bs ≡ length tail → headed L tail ≡ true → Good (rowsOf L us [])
       → actsUp (rowsOf L (us ++ reItems f (itemsOf tail bs)) []) [] ≡ actsUp (rowsOf L us []) [] ++ actsUp (rowsOf L (itemsOf tail bs) []) []
   unfolding headed itemsOf
-  tail-law f one us [] bs q e = cc
-  tail-law f one us (l ∷ ls) [] q e = absurd (omega arith)
-  tail-law f one us (l ∷ ls) (b ∷ bs) q e = items-law f one us (record { line = l; block = b }) (itemsOf ls bs) e
+  tail-law f one us [] bs q e g = cc
+  tail-law f one us (l ∷ ls) [] q e g = absurd (omega arith)
+  tail-law f one us (l ∷ ls) (b ∷ bs) q e g = items-law f one us (record { line = l; block = b }) (itemsOf ls bs) e g
 
-  pub acts-law : (upper tail : List (List ℕ)) → headed L tail ≡ true → Renumbered L upper tail → rebuildCallsActs L (upper ++ tail) ≡ rebuildCallsActs L upper ++ rebuildCallsActs L tail
+  pub acts-law : (upper tail : List (List ℕ)) → headed L tail ≡ true → c .shut (rowsUp L upper) ≡ true → Renumbered L upper tail → rebuildCallsActs L (upper ++ tail) ≡ rebuildCallsActs L upper ++ rebuildCallsActs L tail
   unfolding rebuildCallsActs
-  acts-law upper tail e n =
+  acts-law upper tail e g n =
       ap (λ (bs : List ℕ). actsUp (rowsOf L (itemsOf (upper ++ tail) bs) []) []) (n .blocks)
       ∙ ap (λ (xs : List Item). actsUp (rowsOf L xs []) []) (items-append upper tail (L .blocks upper) (renamed (n .name) (L .blocks tail)) (c .blocks-length upper))
       ∙ ap (λ (xs : List Item). actsUp (rowsOf L (itemsOf upper (L .blocks upper) ++ xs) []) []) (re-items L (n .name) (n .one) tail (L .blocks tail) (c .blocks-length tail))
-      ∙ tail-law (n .name) (n .one) (itemsOf upper (L .blocks upper)) tail (L .blocks tail) (c .blocks-length tail) e
+      ∙ tail-law (n .name) (n .one) (itemsOf upper (L .blocks upper)) tail (L .blocks tail) (c .blocks-length tail) e g
 
   pub rebuilt-length : (ls : List (List ℕ)) → length (rebuildCallsActs L ls) ≡ length ls
   unfolding rebuildCallsActs
@@ -415,8 +430,8 @@ module _ (L : Leaves) (c : Cuttable L) where
       ∙ omega (arith, rows-length L (itemsOf ls (L .blocks ls)) [], items-length ls (L .blocks ls))
 
   -- demand 3 for rebuild_calls
-  pub cut-law : (upper tail : List (List ℕ)) → headed L tail ≡ true → Renumbered L upper tail → rebuildCalls L (upper ++ tail) ≡ rebuildCalls L upper ++ rebuildCalls L tail
+  pub cut-law : (upper tail : List (List ℕ)) → headed L tail ≡ true → c .shut (rowsUp L upper) ≡ true → Renumbered L upper tail → rebuildCalls L (upper ++ tail) ≡ rebuildCalls L upper ++ rebuildCalls L tail
   unfolding rebuildCalls
-  cut-law upper tail e n =
-      ap (λ (r : List Act). apply r (upper ++ tail)) (acts-law upper tail e n)
+  cut-law upper tail e g n =
+      ap (λ (r : List Act). apply r (upper ++ tail)) (acts-law upper tail e g n)
       ∙ apply-append (rebuildCallsActs L upper) upper (rebuildCallsActs L tail) tail (rebuilt-length upper)

@@ -28,7 +28,7 @@ pub lined-start : {t es : List ℕ} {m : ℕ} {bs fs owner stack cur next : List
 lined-start p h = record { at = 0; above = 0; passes = p; down = down-start (h .long); count = h .count }
 
 module _ {t : List ℕ} {rs : List LineRec} {m : ℕ} {bs fs owner₀ stack₀ cur₀ next₀ owner stack cur next : List ℕ} {n o : ℕ} (h : Lined t rs m bs fs owner₀ stack₀ cur₀ next₀ owner stack cur next n o) where
-  pub lined-end : m ≤ n → Rebuilt t owner₀ owner stack o
+  pub lined-end : m ≤ n → Rebuilt t bs fs owner₀ owner stack o
   lined-end l = passes-end (h .passes) (down-none (h .down) (let e = h .count in omega arith))
 
   module _ (l : n < m) where
@@ -44,7 +44,7 @@ module _ {t : List ℕ} {rs : List LineRec} {m : ℕ} {bs fs owner₀ stack₀ c
     pub lined-ready : {r : LineRec} → r ≡ getD rs n noRec → Ready t n (r .start) (r .end) bs fs owner stack o cur next
     lined-ready {r} g = subst (λ (x : LineRec). Ready t n (x .start) (x .end) bs fs owner stack o cur next) (sym (g ∙ down-here (h .down) inside to refl)) (passes-ready (h .passes) inside to refl)
 
-    pub lined-on : {owner′ stack′ cur′ next′ : List ℕ} {o′ : ℕ} → TurnedLine t n owner owner′ stack′ o o′ →
+    pub lined-on : {owner′ stack′ cur′ next′ : List ℕ} {o′ : ℕ} → TurnedLine t bs fs n owner owner′ stack′ o o′ →
         length owner′ ≡ length owner → length stack′ ≡ length stack → length cur′ ≡ length cur → length next′ ≡ length next →
         Lined t rs m bs fs owner₀ stack₀ cur₀ next₀ owner′ stack′ cur′ next′ (n + 1) o′
     lined-on w a b c d = record {
@@ -90,7 +90,7 @@ module _ {t es : List ℕ} {m : ℕ} {bs fs owner₀ stack₀ cur₀ next₀ own
       pub viewed-ready : Ready t n (r .start) (r .end) bs fs owner stack o cur next
       viewed-ready = lined-ready (h .lined) l here
 
-      pub viewed-on : {owner′ stack′ cur′ next′ : List ℕ} {o′ : ℕ} → TurnedLine t n owner owner′ stack′ o o′ →
+      pub viewed-on : {owner′ stack′ cur′ next′ : List ℕ} {o′ : ℕ} → TurnedLine t bs fs n owner owner′ stack′ o o′ →
           length owner′ ≡ length owner → length stack′ ≡ length stack → length cur′ ≡ length cur → length next′ ≡ length next →
           Viewed t m bs fs owner₀ stack₀ cur₀ next₀ owner′ stack′ cur′ next′ d₀ d′ past′ (n + 1) o′
       viewed-on w a b c e =

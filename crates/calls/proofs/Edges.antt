@@ -72,7 +72,7 @@ module _ (L : Leaves) where
       go true q = rw q (ap (λ (g : List (List ℕ)). g ++ (x .line ∷ [])) (walk-given (x .block) (λ v. readLater L v below) climb rs 1 (L .header (x .line)) (x .line) [] []))
       go false q = rw q
 
-  rows-given : (xs : List Item) (rs : List Row) → given (rowsOf L xs rs) ≡ given rs ++ linesOn xs
+  pub rows-given : (xs : List Item) (rs : List Row) → given (rowsOf L xs rs) ≡ given rs ++ linesOn xs
   unfolding rowsOf linesOn
   rows-given [] rs = sym (append-nil (given rs))
   rows-given (x ∷ xs) rs =

@@ -14,7 +14,7 @@ use Rattle.words.specs.Hits.{glueLeft, glueRight, glued, replacedAt}
 use Rattle.forms.specs.Primary.{bare, parenIfNeeded}
 use Rattle.reading.specs.Reading.{Reading}
 use Rattle.calls.specs.Leaves.{Leaves}
-use Rattle.calls.specs.LeavesOf.{leavesOf}
+use Rattle.calls.specs.LeavesOf.{startsBelow, blocksBy, leavesOf}
 use Rattle.calls.specs.Calls.{Item, stepAt, absorb, rebuildCallsActs, rebuildCalls}
 use Rattle.calls.proofs.Room.{Put, put-is}
 use Rattle.calls.proofs.Told.{Absorbs, step-absorbs}
@@ -90,4 +90,4 @@ put-holds cur v value next p =
 
 -- so a step that drops a line leaves its value in the line that takes it in
 pub absorbed-holds : (R : Reading) {a : Act} {l cur next : List ℕ} (p : Absorbs (leavesOf R) a l cur next) → holds (p .value) next ≡ true
-absorbed-holds R {a} {l} {cur} {next} p = put-holds cur (p .reg) (p .value) next (put-is R cur (p .reg) (p .value) next (p .puts))
+absorbed-holds R {a} {l} {cur} {next} p = put-holds cur (p .reg) (p .value) next (put-is (startsBelow R) (blocksBy R) cur (p .reg) (p .value) next (p .puts))

@@ -16,6 +16,7 @@ pub mod Stacks
 pub mod Told
 pub mod Climbs
 pub mod Turns
+pub mod Tabled
 pub mod Wipes
 pub mod Kept
 pub mod Downs

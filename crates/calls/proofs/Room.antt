@@ -33,7 +33,7 @@ use Rattle.forms.specs.Primary.{bare, parenIfNeeded}
 use Rattle.forms.proofs.PrimaryLaws.{paren-length, paren-lacks}
 use Rattle.reading.specs.Reading.{Reading}
 use Rattle.calls.specs.Leaves.{Parsed, store, other, Context, unclear, target, newed, operand}
-use Rattle.calls.specs.LeavesOf.{parsedBy, parsedOf, contextOf, leavesOf}
+use Rattle.calls.specs.LeavesOf.{parsedBy, parsedOf, contextOf, startsBelow, blocksBy, leavesBy, leavesOf}
 use Rattle.calls.specs.Calls.{Step, end, skip, absorb, orEnd, putBy, rebuildCalls}
 use Rattle.calls.proofs.Weight.{code, apart, weighs, rebuilt-weight}
 
@@ -116,11 +116,12 @@ put-by cur v value next b q = go (regHit v cur) refl q
         let a : _≡_ {A = List ℕ} (replacedAt (w .from) (w .to) cur (parenIfNeeded value b)) next = cc in
         record { after = b; span = w; found = e; is = sym a }
 
-pub put-is : (R : Reading) (cur : List ℕ) (v : ℕ) (value next : List ℕ) → putBy (leavesOf R) (contextOf cur v) cur v value ≡ absorb next → Put cur v value next
+pub put-is : (starts : List (List ℕ) → Bool) (blocks : List (List ℕ) → List ℕ) (cur : List ℕ) (v : ℕ) (value next : List ℕ) →
+    putBy (leavesBy starts blocks) (contextOf cur v) cur v value ≡ absorb next → Put cur v value next
 unfolding putBy code
-put-is R cur v value next q = go (contextOf cur v) q
+put-is starts blocks cur v value next q = go (contextOf cur v) q
   where
-    go : (c : Context) → putBy (leavesOf R) c cur v value ≡ absorb next → Put cur v value next
+    go : (c : Context) → putBy (leavesBy starts blocks) c cur v value ≡ absorb next → Put cur v value next
     go unclear k = apart end next (λ z. omega arith) k
     go target k = apart end next (λ z. omega arith) k
     go newed k = put-by cur v value next true k
@@ -175,7 +176,7 @@ module _ (H : ℕ) where
     where
       fits : (cur t : List ℕ) (v : ℕ) (value next : List ℕ) → parsedOf t ≡ store v value → putBy (leavesOf R) (contextOf cur v) cur v value ≡ absorb next → weighed next ≤ weighed cur + weighed t
       fits cur t v value next p q =
-          let a = put-weight cur v value next (put-is R cur v value next q) in
+          let a = put-weight cur v value next (put-is (startsBelow R) (blocksBy R) cur v value next q) in
           let b = value-weight t v value (valued t v value p) in
           omega arith
 
@@ -211,7 +212,7 @@ calls-bytes R ls =
   where
     fits : (cur t : List ℕ) (v : ℕ) (value next : List ℕ) → parsedOf t ≡ store v value → putBy (leavesOf R) (contextOf cur v) cur v value ≡ absorb next → long next ≤ long cur + long t
     fits cur t v value next p q =
-        let a = put-length cur t v value next (valued t v value p) (put-is R cur v value next q) in
+        let a = put-length cur t v value next (valued t v value p) (put-is (startsBelow R) (blocksBy R) cur v value next q) in
         omega arith
 
 -- ---- no LF comes in
@@ -256,4 +257,4 @@ calls-noLf R ls h =
     none-holed (rebuildCalls (leavesOf R) ls) (omega (arith, k, holed-none ls h))
   where
     fits : (cur t : List ℕ) (v : ℕ) (value next : List ℕ) → parsedOf t ≡ store v value → putBy (leavesOf R) (contextOf cur v) cur v value ≡ absorb next → holed next ≤ holed cur + holed t
-    fits cur t v value next p q = holed-le cur t next (put-lacks cur t v value next (valued t v value p) (put-is R cur v value next q))
+    fits cur t v value next p q = holed-le cur t next (put-lacks cur t v value next (valued t v value p) (put-is (startsBelow R) (blocksBy R) cur v value next q))

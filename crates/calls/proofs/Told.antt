@@ -16,18 +16,11 @@ use Rattle.parse.specs.declared.Store.{Store}
 use Rattle.words.proofs.Places.{replace-lacks}
 use Rattle.forms.specs.Primary.{parenIfNeeded}
 use Rattle.forms.proofs.PrimaryLaws.{paren-lacks}
-use Rattle.lexical.specs.Lex.{stripLexical}
-use Rattle.place.specs.Blocks.{blocks, cleaned}
-use Rattle.place.specs.Inner.Blocks.{blockIds}
-use Rattle.place.specs.Starts.{startsGo, startsAbove}
-use Rattle.place.specs.Inner.Fill.{flagsOf}
-use Rattle.place.proofs.Blocks.{cleaned-length, length-ids}
-use Rattle.place.proofs.Starts.{starts-at, length-starts}
-use Rattle.reading.specs.Reading.{plain}
+use Rattle.place.specs.Region.{isHeader}
 use Rattle.calls.specs.Leaves.{Leaves, Parsed, store, other}
-use Rattle.calls.specs.LeavesOf.{parsedOf, contextOf, startsBelow, blocksBy, leavesOf}
+use Rattle.calls.specs.LeavesOf.{parsedOf, contextOf}
 use Rattle.calls.specs.Calls.{Item, Row, Walked, Step, end, skip, absorb, tries, rowLines, linesOn, has, climb, made, itemsOf, actsUp, readLater, breaksOne, putBy, storeStep, stepAt, walk, turn, rowsOf}
-use Rattle.calls.specs.Inner.Tables.{ownerOf, rowsTo, walkFrom, itemsIn, rowsAt, walkAt, lineAt, Placed}
+use Rattle.calls.specs.Inner.Tables.{ownerOf, tabled, rowsTo, walkFrom, itemsIn, rowsAt, walkAt, lineAt, Placed}
 use Rattle.calls.proofs.Cut.{walk-step}
 use Rattle.calls.proofs.Edges.{given, given-length, walk-given, turn-given, items-on}
 use Rattle.calls.proofs.Owners.{owned, turn-owned}
@@ -119,9 +112,9 @@ stands-lacks (become x) l t g h e = let z : x ≡ t = cc in ap (lacks 10) (sym z
 stands-lacks (into n) l t g h e = let z : _≡_ {A = ℕ} 0 1 = cc in absurd (omega arith)
 stands-lacks gone l t g h e = absurd g
 
-absorbs-lacks : {a : Act} {l cur next : List ℕ} → Absorbs (leavesOf plain) a l cur next → goodAct a → lacks 10 l ≡ true → lacks 10 cur ≡ true → lacks 10 next ≡ true
-absorbs-lacks {a} {l} {cur} {next} p g h k =
-    put-lacks cur (p .t) (p .reg) (p .value) next (valued (p .t) (p .reg) (p .value) (p .parses)) (put-is plain cur (p .reg) (p .value) next (p .puts)) k (stands-lacks a l (p .t) g h (p .stands))
+absorbs-lacks : (bs fs : List ℕ) {a : Act} {l cur next : List ℕ} → Absorbs (tabled bs fs) a l cur next → goodAct a → lacks 10 l ≡ true → lacks 10 cur ≡ true → lacks 10 next ≡ true
+absorbs-lacks bs fs {a} {l} {cur} {next} p g h k =
+    put-lacks cur (p .t) (p .reg) (p .value) next (valued (p .t) (p .reg) (p .value) (p .parses)) (put-is (tabled bs fs .starts) (tabled bs fs .blocks) cur (p .reg) (p .value) next (p .puts)) k (stands-lacks a l (p .t) g h (p .stands))
 
 -- ---- what the tables tell of rows
 
@@ -129,7 +122,6 @@ absorbs-lacks {a} {l} {cur} {next} p g h k =
 pub record RowTold (bs fs : List ℕ) (x : Item) (above : List (List ℕ)) : Type 0 where
   pub clear : lacks 10 (x .line) ≡ true
   pub block : getD bs (length above) 0 ≡ x .block
-  pub start : eqb (getD fs (length above) 0) 1 ≡ startsBelow plain above
   pub b< : length above < length bs
   pub f< : length above < length fs
 
@@ -151,37 +143,37 @@ module _ (L : Leaves) where
 module _ (bs fs : List ℕ) where
   walk-told : (b : ℕ) (later : ℕ → Bool) (left : ℕ) (rs : List Row) (d : ℕ) (over : Bool) (cur took : List ℕ) (lines : List (List ℕ))
       → Told bs fs rs → lacks 10 cur ≡ true → 1 ≤ d
-      → goodAct (walk (leavesOf plain) b later left rs d over cur took lines .act) × Told bs fs (walk (leavesOf plain) b later left rs d over cur took lines .rows)
+      → goodAct (walk (tabled bs fs) b later left rs d over cur took lines .act) × Told bs fs (walk (tabled bs fs) b later left rs d over cur took lines .rows)
   unfolding walk Told goodAct
   walk-told b later zero rs d over cur took lines h k u = (made-good took cur k, h)
   walk-told b later (suc left) [] d over cur took lines h k u = (made-good took cur k, h)
   walk-told b later (suc left) (r ∷ rs) d over cur took lines h k u =
-      go (stepAt (leavesOf plain) b later (r .act) (r .item) d over cur took lines (rowLines rs)) refl
-      (walk-told b later left rs (suc d) (over || leavesOf plain .header (r .item .line)) cur took lines (h .1 .1) k (omega arith))
-      (λ next q. walk-told b later left rs (suc d) (over || leavesOf plain .header (r .item .line)) next (d ∷ took) (r .item .line ∷ lines) (h .1 .1) q (omega arith))
+      go (stepAt (tabled bs fs) b later (r .act) (r .item) d over cur took lines (rowLines rs)) refl
+      (walk-told b later left rs (suc d) (over || isHeader (r .item .line)) cur took lines (h .1 .1) k (omega arith))
+      (λ next q. walk-told b later left rs (suc d) (over || isHeader (r .item .line)) next (d ∷ took) (r .item .line ∷ lines) (h .1 .1) q (omega arith))
     where
       go : (s : Step)
-          → stepAt (leavesOf plain) b later (r .act) (r .item) d over cur took lines (rowLines rs) ≡ s
-          → goodAct (walk (leavesOf plain) b later left rs (suc d) (over || leavesOf plain .header (r .item .line)) cur took lines .act) × Told bs fs (walk (leavesOf plain) b later left rs (suc d) (over || leavesOf plain .header (r .item .line)) cur took lines .rows)
-          → ((next : List ℕ) → lacks 10 next ≡ true → goodAct (walk (leavesOf plain) b later left rs (suc d) (over || leavesOf plain .header (r .item .line)) next (d ∷ took) (r .item .line ∷ lines) .act) × Told bs fs (walk (leavesOf plain) b later left rs (suc d) (over || leavesOf plain .header (r .item .line)) next (d ∷ took) (r .item .line ∷ lines) .rows))
-          → goodAct (walk (leavesOf plain) b later (suc left) (r ∷ rs) d over cur took lines .act) × Told bs fs (walk (leavesOf plain) b later (suc left) (r ∷ rs) d over cur took lines .rows)
-      go end q c m = rw (walk-step (leavesOf plain) b later left r rs d over cur took lines, q) (made-good took cur k, h)
+          → stepAt (tabled bs fs) b later (r .act) (r .item) d over cur took lines (rowLines rs) ≡ s
+          → goodAct (walk (tabled bs fs) b later left rs (suc d) (over || isHeader (r .item .line)) cur took lines .act) × Told bs fs (walk (tabled bs fs) b later left rs (suc d) (over || isHeader (r .item .line)) cur took lines .rows)
+          → ((next : List ℕ) → lacks 10 next ≡ true → goodAct (walk (tabled bs fs) b later left rs (suc d) (over || isHeader (r .item .line)) next (d ∷ took) (r .item .line ∷ lines) .act) × Told bs fs (walk (tabled bs fs) b later left rs (suc d) (over || isHeader (r .item .line)) next (d ∷ took) (r .item .line ∷ lines) .rows))
+          → goodAct (walk (tabled bs fs) b later (suc left) (r ∷ rs) d over cur took lines .act) × Told bs fs (walk (tabled bs fs) b later (suc left) (r ∷ rs) d over cur took lines .rows)
+      go end q c m = rw (walk-step (tabled bs fs) b later left r rs d over cur took lines, q) (made-good took cur k, h)
       go skip q c m =
-          rw (walk-step (leavesOf plain) b later left r rs d over cur took lines, q)
-          (c .0, (rw (walk-lines (leavesOf plain) b later left rs (suc d) (over || leavesOf plain .header (r .item .line)) cur took lines) (h .0), (h .1 .0, c .1)))
+          rw (walk-step (tabled bs fs) b later left r rs d over cur took lines, q)
+          (c .0, (rw (walk-lines (tabled bs fs) b later left rs (suc d) (over || isHeader (r .item .line)) cur took lines) (h .0), (h .1 .0, c .1)))
       go (absorb next) q c m =
-          let w = m next (absorbs-lacks (step-absorbs (leavesOf plain) b later (r .act) (r .item) d over cur took lines (rowLines rs) next q) (h .1 .0) (h .0 .clear) k) in
-          rw (walk-step (leavesOf plain) b later left r rs d over cur took lines, q)
-          (w .0, (rw (walk-lines (leavesOf plain) b later left rs (suc d) (over || leavesOf plain .header (r .item .line)) next (d ∷ took) (r .item .line ∷ lines)) (h .0), (u, w .1)))
+          let w = m next (absorbs-lacks bs fs (step-absorbs (tabled bs fs) b later (r .act) (r .item) d over cur took lines (rowLines rs) next q) (h .1 .0) (h .0 .clear) k) in
+          rw (walk-step (tabled bs fs) b later left r rs d over cur took lines, q)
+          (w .0, (rw (walk-lines (tabled bs fs) b later left rs (suc d) (over || isHeader (r .item .line)) next (d ∷ took) (r .item .line ∷ lines)) (h .0), (u, w .1)))
 
-  turn-told : (x : Item) (below : List (List ℕ)) (rs : List Row) → Told bs fs rs → RowTold bs fs x (rowLines rs) → Told bs fs (turn (leavesOf plain) x below rs)
+  turn-told : (x : Item) (below : List (List ℕ)) (rs : List Row) → Told bs fs rs → RowTold bs fs x (rowLines rs) → Told bs fs (turn (tabled bs fs) x below rs)
   unfolding turn Told goodAct
-  turn-told x below rs h k = go (tries (leavesOf plain) (x .line) rs) refl
+  turn-told x below rs h k = go (tries (tabled bs fs) (x .line) rs) refl
     where
-      go : (t : Bool) → tries (leavesOf plain) (x .line) rs ≡ t → Told bs fs (turn (leavesOf plain) x below rs)
+      go : (t : Bool) → tries (tabled bs fs) (x .line) rs ≡ t → Told bs fs (turn (tabled bs fs) x below rs)
       go true q =
-          let w = walk-told (x .block) (λ v. readLater (leavesOf plain) v below) climb rs 1 (leavesOf plain .header (x .line)) (x .line) [] [] h (k .clear) (omega arith) in
-          rw q (rw (walk-lines (leavesOf plain) (x .block) (λ v. readLater (leavesOf plain) v below) climb rs 1 (leavesOf plain .header (x .line)) (x .line) [] []) k, (w .0, w .1))
+          let w = walk-told (x .block) (λ v. readLater (tabled bs fs) v below) climb rs 1 (isHeader (x .line)) (x .line) [] [] h (k .clear) (omega arith) in
+          rw q (rw (walk-lines (tabled bs fs) (x .block) (λ v. readLater (tabled bs fs) v below) climb rs 1 (isHeader (x .line)) (x .line) [] []) k, (w .0, w .1))
       go false q = rw q (k, (tt, h))
 
 -- ---- the rows of the first n lines
@@ -239,64 +231,51 @@ on-drop (suc n) [] = refl
 on-drop (suc n) (x ∷ xs) = on-drop n xs
 
 -- line n with its block
-abbrev pub itemAt : List ℕ → ℕ → Item
-itemAt t n = record { line = lineAt t n; block = getD (blockIds (linesOf t)) n 0 }
+abbrev pub itemAt : List ℕ → List ℕ → ℕ → Item
+itemAt t bs n = record { line = lineAt t n; block = getD bs n 0 }
 
-module _ (t : List ℕ) (n : ℕ) (h : n < length (linesOf t)) where
-  here : drop n (itemsIn t) ≡ itemAt t n ∷ drop (suc n) (itemsIn t)
-  unfolding itemsIn blocksBy
-  here = item-at (linesOf t) (blockIds (linesOf t)) n h (omega (arith, length-ids (linesOf t)))
+module _ (t bs fs : List ℕ) (n : ℕ) (h : n < length (linesOf t)) (k : n < length bs) where
+  here : drop n (itemsIn t bs) ≡ itemAt t bs n ∷ drop (suc n) (itemsIn t bs)
+  unfolding itemsIn
+  here = item-at (linesOf t) bs n h k
 
-  rest-on : linesOn (drop (suc n) (itemsIn t)) ≡ drop (suc n) (linesOf t)
-  unfolding itemsIn blocksBy
-  rest-on = on-drop (suc n) (itemsOf (linesOf t) (blockIds (linesOf t))) ∙ ap (drop (suc n)) (items-on (leavesOf plain) (linesOf t) (blockIds (linesOf t)))
+  rest-on : linesOn (drop (suc n) (itemsIn t bs)) ≡ drop (suc n) (linesOf t)
+  unfolding itemsIn
+  rest-on = on-drop (suc n) (itemsOf (linesOf t) bs) ∙ ap (drop (suc n)) (items-on (tabled bs fs) (linesOf t) bs)
 
-  pub rows-suc : rowsAt t (suc n) ≡ turn (leavesOf plain) (itemAt t n) (drop (suc n) (linesOf t)) (rowsAt t n)
+  pub rows-suc : rowsAt t bs fs (suc n) ≡ turn (tabled bs fs) (itemAt t bs n) (drop (suc n) (linesOf t)) (rowsAt t bs fs n)
   unfolding rowsAt turnFrom
   rows-suc =
-      rows-next (leavesOf plain) n (itemsIn t) []
-      ∙ ap (λ (xs : List Item). turnFrom (leavesOf plain) xs (rowsTo (leavesOf plain) n (itemsIn t) [])) here
-      ∙ ap (λ (ls : List (List ℕ)). turn (leavesOf plain) (itemAt t n) ls (rowsTo (leavesOf plain) n (itemsIn t) [])) rest-on
+      rows-next (tabled bs fs) n (itemsIn t bs) []
+      ∙ ap (λ (xs : List Item). turnFrom (tabled bs fs) xs (rowsTo (tabled bs fs) n (itemsIn t bs) [])) here
+      ∙ ap (λ (ls : List (List ℕ)). turn (tabled bs fs) (itemAt t bs n) ls (rowsTo (tabled bs fs) n (itemsIn t bs) [])) rest-on
 
-  pub walk-is : walkAt t n ≡ walk (leavesOf plain) (getD (blockIds (linesOf t)) n 0) (λ v. readLater (leavesOf plain) v (drop (suc n) (linesOf t))) climb (rowsAt t n) 1 (leavesOf plain .header (lineAt t n)) (lineAt t n) [] []
+  pub walk-is : walkAt t bs fs n ≡ walk (tabled bs fs) (getD bs n 0) (λ v. readLater (tabled bs fs) v (drop (suc n) (linesOf t))) climb (rowsAt t bs fs n) 1 (isHeader (lineAt t n)) (lineAt t n) [] []
   unfolding walkAt walkFrom
   walk-is =
-      ap (λ (xs : List Item). walkFrom (leavesOf plain) xs (rowsAt t n)) here
-      ∙ ap (λ (ls : List (List ℕ)). walk (leavesOf plain) (getD (blockIds (linesOf t)) n 0) (λ v. readLater (leavesOf plain) v ls) climb (rowsAt t n) 1 (leavesOf plain .header (lineAt t n)) (lineAt t n) [] []) rest-on
+      ap (λ (xs : List Item). walkFrom (tabled bs fs) xs (rowsAt t bs fs n)) here
+      ∙ ap (λ (ls : List (List ℕ)). walk (tabled bs fs) (getD bs n 0) (λ v. readLater (tabled bs fs) v ls) climb (rowsAt t bs fs n) 1 (isHeader (lineAt t n)) (lineAt t n) [] []) rest-on
 
-module _ (t : List ℕ) (n : ℕ) where
-  pub given-at : given (rowsAt t n) ≡ take n (linesOf t)
-  unfolding rowsAt itemsIn blocksBy given
-  given-at = rows-given (leavesOf plain) n (itemsIn t) [] ∙ ap (take n) (items-on (leavesOf plain) (linesOf t) (blockIds (linesOf t)))
+module _ (t bs fs : List ℕ) (n : ℕ) where
+  pub given-at : given (rowsAt t bs fs n) ≡ take n (linesOf t)
+  unfolding rowsAt itemsIn given
+  given-at = rows-given (tabled bs fs) n (itemsIn t bs) [] ∙ ap (take n) (items-on (tabled bs fs) (linesOf t) bs)
 
-  pub owned-at : owned 1 (rowsAt t n)
+  pub owned-at : owned 1 (rowsAt t bs fs n)
   unfolding rowsAt owned
-  owned-at = rows-owned (leavesOf plain) n (itemsIn t) [] tt
+  owned-at = rows-owned (tabled bs fs) n (itemsIn t bs) [] tt
 
-  pub many-at : n ≤ length (linesOf t) → length (rowsAt t n) ≡ n
-  many-at h = sym (given-length (rowsAt t n)) ∙ ap length given-at ∙ length-take-le n (linesOf t) h
+  pub many-at : n ≤ length (linesOf t) → length (rowsAt t bs fs n) ≡ n
+  many-at h = sym (given-length (rowsAt t bs fs n)) ∙ ap length given-at ∙ length-take-le n (linesOf t) h
 
 -- the rows of all lines
-pub rows-end : (t : List ℕ) → rowsAt t (length (linesOf t)) ≡ rowsOf (leavesOf plain) (itemsOf (linesOf t) (leavesOf plain .blocks (linesOf t))) []
+pub rows-end : (t bs fs : List ℕ) → rowsAt t bs fs (length (linesOf t)) ≡ rowsOf (tabled bs fs) (itemsOf (linesOf t) bs) []
 unfolding rowsAt itemsIn
-rows-end t =
-    ap (λ (n : ℕ). rowsTo (leavesOf plain) n (itemsOf (linesOf t) (blocksBy plain (linesOf t))) []) (sym (items-many (linesOf t) (blocksBy plain (linesOf t))))
-    ∙ rows-all (leavesOf plain) (itemsOf (linesOf t) (blocksBy plain (linesOf t))) []
+rows-end t bs fs =
+    ap (λ (n : ℕ). rowsTo (tabled bs fs) n (itemsOf (linesOf t) bs) []) (sym (items-many (linesOf t) bs))
+    ∙ rows-all (tabled bs fs) (itemsOf (linesOf t) bs) []
 
 -- ---- what the tables tell of line n
-
-clean-take : (n : ℕ) (ls : List (List ℕ)) → cleaned (take n ls) ≡ take n (cleaned ls)
-unfolding cleaned
-clean-take zero ls = refl
-clean-take (suc n) [] = refl
-clean-take (suc n) (l ∷ ls) = ap (λ (k : List (List ℕ)). stripLexical l ∷ k) (clean-take n ls)
-
-flag-at : (bs : List Bool) (n : ℕ) → n < length bs → eqb (getD (flagsOf bs) n 0) 1 ≡ getD bs n true
-unfolding flagsOf
-flag-at [] n h = absurd (omega arith)
-flag-at (true ∷ bs) zero h = refl
-flag-at (false ∷ bs) zero h = refl
-flag-at (b ∷ bs) (suc n) h = flag-at bs n (omega arith)
 
 clear-at : (ls : List (List ℕ)) (n : ℕ) → n < length ls → noLf ls ≡ true → lacks 10 (getD ls n []) ≡ true
 unfolding noLf
@@ -305,32 +284,25 @@ clear-at (l ∷ ls) zero h k = and-left (lacks 10 l) (noLf ls) k
 clear-at (l ∷ ls) (suc n) h k = clear-at ls n (omega arith) (and-right (lacks 10 l) (noLf ls) k)
 
 module _ {t bs fs : List ℕ} (p : Placed t bs fs) where
-  pub block-at : (n : ℕ) → n < length (linesOf t) → getD bs n 0 ≡ getD (blockIds (linesOf t)) n 0
-  block-at n h = sym (getD-take (length (linesOf t)) bs n 0 h) ∙ ap (λ (l : List ℕ). getD l n 0) (p .blocks-are)
+  index-at : (n : ℕ) → n < length (linesOf t) → length (rowLines (rowsAt t bs fs n)) ≡ n
+  index-at n h = lines-many (rowsAt t bs fs n) ∙ many-at t bs fs n (omega arith)
 
-  pub start-at : (n : ℕ) → n < length (linesOf t) → eqb (getD fs n 0) 1 ≡ startsBelow plain (rowLines (rowsAt t n))
-  unfolding startsBelow
-  start-at n h =
-      let m : n < length (cleaned (linesOf t)) = omega (arith, cleaned-length (linesOf t)) in
-      let k : n < length (startsGo (cleaned (linesOf t)) true) = omega (arith, length-starts (cleaned (linesOf t)) true) in
-      ap (λ (x : ℕ). eqb x 1) (sym (getD-take (length (linesOf t)) fs n 0 h) ∙ ap (λ (l : List ℕ). getD l n 0) (p .starts-are))
-      ∙ flag-at (startsGo (cleaned (linesOf t)) true) n k ∙ starts-at (cleaned (linesOf t)) n m
-      ∙ ap (λ (l : List (List ℕ)). startsAbove (reverse l)) (sym (clean-take n (linesOf t)))
-      ∙ ap (λ (l : List (List ℕ)). startsAbove (reverse (cleaned l))) (sym (ap reverse (lines-given (rowsAt t n)) ∙ reverse-reverse (given (rowsAt t n)) ∙ given-at t n))
+  pub start-at : (n : ℕ) → n < length (linesOf t) → eqb (getD fs n 0) 1 ≡ tabled bs fs .starts (rowLines (rowsAt t bs fs n))
+  start-at n h = ap (λ (k : ℕ). eqb (getD fs k 0) 1) (sym (index-at n h))
 
-  row-told : (n : ℕ) → n < length (linesOf t) → RowTold bs fs (itemAt t n) (rowLines (rowsAt t n))
+  row-told : (n : ℕ) → n < length (linesOf t) → RowTold bs fs (itemAt t bs n) (rowLines (rowsAt t bs fs n))
   row-told n h =
-      let q : length (rowLines (rowsAt t n)) ≡ n = lines-many (rowsAt t n) ∙ many-at t n (omega arith) in
+      let q = index-at n h in
       record {
         clear = clear-at (linesOf t) n h (lines-noLf t);
-        block = ap (λ (k : ℕ). getD bs k 0) q ∙ block-at n h;
-        start = ap (λ (k : ℕ). eqb (getD fs k 0) 1) q ∙ start-at n h;
+        block = ap (λ (k : ℕ). getD bs k 0) q;
         b< = omega (arith, p .blocks-many);
         f< = omega (arith, p .starts-many);
       }
 
-  pub told-at : (n : ℕ) → n ≤ length (linesOf t) → Told bs fs (rowsAt t n)
+  pub told-at : (n : ℕ) → n ≤ length (linesOf t) → Told bs fs (rowsAt t bs fs n)
   unfolding rowsAt rowsTo Told
   told-at zero h = tt
   told-at (suc n) h =
-      subst (Told bs fs) (sym (rows-suc t n (omega arith))) (turn-told bs fs (itemAt t n) (drop (suc n) (linesOf t)) (rowsAt t n) (told-at n (omega arith)) (row-told n (omega arith)))
+      subst (Told bs fs) (sym (rows-suc t bs fs n (omega arith) (omega (arith, p .blocks-many))))
+      (turn-told bs fs (itemAt t bs n) (drop (suc n) (linesOf t)) (rowsAt t bs fs n) (told-at n (omega arith)) (row-told n (omega arith)))

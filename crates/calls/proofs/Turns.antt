@@ -17,10 +17,9 @@ use Rattle.lines.proofs.LfLaws.{lines-at, lines-end, find-le, part-more}
 use Rattle.lines.proofs.OutLaws.{wrote-length, wrote-part}
 use Rattle.place.specs.Region.{isHeader}
 use Rattle.place.specs.Inner.Fill.{Filled}
-use Rattle.reading.specs.Reading.{plain}
-use Rattle.calls.specs.LeavesOf.{isCall, isControlLine, leavesOf}
+use Rattle.calls.specs.LeavesOf.{isCall, isControlLine}
 use Rattle.calls.specs.Calls.{Item, Row, Walked, tries, settleRow, rowLines, climb, actsUp, readLater, walk, turn, rebuildCallsActs, rebuildCalls}
-use Rattle.calls.specs.Inner.Tables.{ownerOf, ownersOf, rowsTo, rowsAt, walkAt, lineAt, Keeps, Stands, Placed, Foot, Peaked, LineAt, Ready, TurnedLine, Rebuilt}
+use Rattle.calls.specs.Inner.Tables.{ownerOf, ownersOf, tabled, rowsTo, rowsAt, walkAt, lineAt, Keeps, Stands, Placed, Foot, Peaked, LineAt, Ready, TurnedLine, Rebuilt}
 use Rattle.calls.proofs.Cut.{acts-more, acts-length}
 use Rattle.calls.proofs.Edges.{given, given-length, walk-given}
 use Rattle.calls.proofs.Owners.{walk-owned, keep-owner}
@@ -67,26 +66,26 @@ module _ {t : List ℕ} {n : ℕ} {rows : List Row} {owner stack : List ℕ} {o 
 
 -- ---- a line in its turn
 
-walk-acts : (t : List ℕ) (n : ℕ) → n < length (linesOf t) → ownerOf (walkAt t n .act) ≡ 0
-walk-acts t n h =
-    ap (λ (x : Walked). ownerOf (x .act)) (walk-is t n h)
-    ∙ walk-owned (leavesOf plain) (itemAt t n .block) (λ v. readLater (leavesOf plain) v (drop (suc n) (linesOf t))) climb (rowsAt t n) 1 (isHeader (lineAt t n)) (lineAt t n) [] [] (owned-at t n) .0
+walk-acts : (t bs fs : List ℕ) (n : ℕ) → n < length (linesOf t) → n < length bs → ownerOf (walkAt t bs fs n .act) ≡ 0
+walk-acts t bs fs n h k =
+    ap (λ (x : Walked). ownerOf (x .act)) (walk-is t bs fs n h k)
+    ∙ walk-owned (tabled bs fs) (itemAt t bs n .block) (λ v. readLater (tabled bs fs) v (drop (suc n) (linesOf t))) climb (rowsAt t bs fs n) 1 (isHeader (lineAt t n)) (lineAt t n) [] [] (owned-at t bs fs n) .0
 
-walk-rows : (t : List ℕ) (n : ℕ) → n < length (linesOf t) → length (walkAt t n .rows) ≡ n
-walk-rows t n h =
-    sym (given-length (walkAt t n .rows))
-    ∙ ap (λ (x : Walked). length (given (x .rows))) (walk-is t n h)
-    ∙ ap length (walk-given (leavesOf plain) (itemAt t n .block) (λ v. readLater (leavesOf plain) v (drop (suc n) (linesOf t))) climb (rowsAt t n) 1 (isHeader (lineAt t n)) (lineAt t n) [] [] ∙ given-at t n)
+walk-rows : (t bs fs : List ℕ) (n : ℕ) → n < length (linesOf t) → n < length bs → length (walkAt t bs fs n .rows) ≡ n
+walk-rows t bs fs n h k =
+    sym (given-length (walkAt t bs fs n .rows))
+    ∙ ap (λ (x : Walked). length (given (x .rows))) (walk-is t bs fs n h k)
+    ∙ ap length (walk-given (tabled bs fs) (itemAt t bs n .block) (λ v. readLater (tabled bs fs) v (drop (suc n) (linesOf t))) climb (rowsAt t bs fs n) 1 (isHeader (lineAt t n)) (lineAt t n) [] [] ∙ given-at t bs fs n)
     ∙ length-take-le n (linesOf t) (omega arith)
 
-module _ (t : List ℕ) (n : ℕ) (h : n < length (linesOf t)) where
-  rows-plain : tries (leavesOf plain) (lineAt t n) (rowsAt t n) ≡ false → rowsAt t (suc n) ≡ record { item = itemAt t n; act = keep } ∷ rowsAt t n
+module _ (t bs fs : List ℕ) (n : ℕ) (h : n < length (linesOf t)) (k : n < length bs) where
+  rows-plain : tries (tabled bs fs) (lineAt t n) (rowsAt t bs fs n) ≡ false → rowsAt t bs fs (suc n) ≡ record { item = itemAt t bs n; act = keep } ∷ rowsAt t bs fs n
   unfolding turn
-  rows-plain e = rows-suc t n h ∙ rw e
+  rows-plain e = rows-suc t bs fs n h k ∙ rw e
 
-  rows-walked : tries (leavesOf plain) (lineAt t n) (rowsAt t n) ≡ true → rowsAt t (suc n) ≡ record { item = itemAt t n; act = walkAt t n .act } ∷ walkAt t n .rows
+  rows-walked : tries (tabled bs fs) (lineAt t n) (rowsAt t bs fs n) ≡ true → rowsAt t bs fs (suc n) ≡ record { item = itemAt t bs n; act = walkAt t bs fs n .act } ∷ walkAt t bs fs n .rows
   unfolding turn
-  rows-walked e = rows-suc t n h ∙ rw e (ap (settleRow (leavesOf plain) (itemAt t n)) (sym (walk-is t n h)))
+  rows-walked e = rows-suc t bs fs n h k ∙ rw e (ap (settleRow (tabled bs fs) (itemAt t bs n)) (sym (walk-is t bs fs n h k)))
 
 module _ {t : List ℕ} {n i e : ℕ} {bs fs owner stack : List ℕ} {o : ℕ} {cur next : List ℕ} (v : Ready t n i e bs fs owner stack o cur next) where
   pub end-in : e ≤ length t
@@ -107,6 +106,9 @@ module _ {t : List ℕ} {n i e : ℕ} {bs fs owner stack : List ℕ} {o : ℕ} {
   line-size : length (lineAt t n) ≡ e - i
   line-size = ap length (sym line-here) ∙ length-take (e - i) (drop i t) ∙ omega (arith, length-drop i t, end-in, end-after)
 
+  blocks-in : n < length bs
+  blocks-in = omega (arith, in-lines, v .placed .blocks-many)
+
   pub starts-in : n < length fs
   starts-in = omega (arith, in-lines, v .placed .starts-many)
 
@@ -118,7 +120,7 @@ module _ {t : List ℕ} {n i e : ℕ} {bs fs owner stack : List ℕ} {o : ℕ} {
     from = omega (arith, v .spot .inside);
   }
 
-  tries-is : (r : Bool) → r ≡ isCall (part i e t) && (eqb (getD fs n 0) 1 && not (isControlLine (part i e t))) → tries (leavesOf plain) (lineAt t n) (rowsAt t n) ≡ r
+  tries-is : (r : Bool) → r ≡ isCall (part i e t) && (eqb (getD fs n 0) 1 && not (isControlLine (part i e t))) → tries (tabled bs fs) (lineAt t n) (rowsAt t bs fs n) ≡ r
   tries-is r q =
       sym (q ∙ ap (λ (l : List ℕ). isCall l && (eqb (getD fs n 0) 1 && not (isControlLine l))) line-here
       ∙ ap (λ (b : Bool). isCall (lineAt t n) && (b && not (isControlLine (lineAt t n)))) (start-at (v .placed) n in-lines))
@@ -126,7 +128,7 @@ module _ {t : List ℕ} {n i e : ℕ} {bs fs owner stack : List ℕ} {o : ℕ} {
   owner-set : getD (set owner n 0) n 0 ≡ 0
   owner-set = getD-set-same owner n 0 0 (v .many)
 
-  keeps-set : Keeps t n (rowsAt t n) (set owner n 0) stack o
+  keeps-set : Keeps t n (rowsAt t bs fs n) (set owner n 0) stack o
   keeps-set = record {
     owners = take-set-le n owner n 0 (omega arith) ∙ v .keeps .owners;
     stands = v .keeps .stands;
@@ -153,11 +155,11 @@ module _ {t : List ℕ} {n i e : ℕ} {bs fs owner stack : List ℕ} {o : ℕ} {
 
   -- it takes nothing in
   pub turn-plain : (r : Bool) → r ≡ isCall (part i e t) && (eqb (getD fs n 0) 1 && not (isControlLine (part i e t))) → r ≡ false → {stack′ : List ℕ} {x : ℕ} →
-      Wrote stack o (unlines (part i e t ∷ [])) stack′ x → TurnedLine t n owner (set owner n 0) stack′ o x
+      Wrote stack o (unlines (part i e t ∷ [])) stack′ x → TurnedLine t bs fs n owner (set owner n 0) stack′ o x
   unfolding act
   turn-plain r q z {stack′} {x} w = record {
-    keeps = subst (λ (rows : List Row). Keeps t (suc n) rows (set owner n 0) stack′ x) (sym (rows-plain t n in-lines (tries-is r q ∙ z)))
-        (push-keeps keeps-set in-lines (many-at t n (omega (arith, in-lines))) (itemAt t n) keep (part i e t) keep-owner (ap (λ (l : List ℕ). l ∷ []) (sym line-here)) (omega (arith, length-set owner n 0, v .many)) owner-set w);
+    keeps = subst (λ (rows : List Row). Keeps t (suc n) rows (set owner n 0) stack′ x) (sym (rows-plain t bs fs n in-lines blocks-in (tries-is r q ∙ z)))
+        (push-keeps keeps-set in-lines (many-at t bs fs n (omega (arith, in-lines))) (itemAt t bs n) keep (part i e t) keep-owner (ap (λ (l : List ℕ). l ∷ []) (sym line-here)) (omega (arith, length-set owner n 0, v .many)) owner-set w);
     beyond = beyond-set;
     room = omega (arith, w .place, line-long (part i e t), ap length line-here);
   }
@@ -174,7 +176,7 @@ module _ {t : List ℕ} {n i e : ℕ} {bs fs owner stack : List ℕ} {o : ℕ} {
     foot = record { line = wrote-part w ∙ line-here; header = q ∙ ap isHeader line-here; sized = omega (arith, size-is, line-size) }
 
     pub walk-ready : (f : ℕ) → f ≡ min (e + 1) (length t) →
-        (Keeps t n (rowsAt t n) (set owner n 0) stack o) × ((Stands t n i f) × ((Placed t bs fs) × ((Foot t n top cur′ size) × ((o + size ≤ length cur′) × (o + size ≤ length next)))))
+        (Keeps t n (rowsAt t bs fs n) (set owner n 0) stack o) × ((Stands t n i f) × ((Placed t bs fs) × ((Foot t n top cur′ size) × ((o + size ≤ length cur′) × (o + size ≤ length next)))))
     walk-ready f z = (
       keeps-set,
       (
@@ -192,7 +194,7 @@ module _ {t : List ℕ} {n i e : ℕ} {bs fs owner stack : List ℕ} {o : ℕ} {
       ),
     )
 
-    module _ {owner′ cur″ : List ℕ} {height m : ℕ} (p : Peaked t n (set owner n 0) owner′ stack cur″ height m (o + size)) (l : List ℕ) (c : l ≡ part 0 m cur″) where
+    module _ {owner′ cur″ : List ℕ} {height m : ℕ} (p : Peaked t bs fs n (set owner n 0) owner′ stack cur″ height m (o + size)) (l : List ℕ) (c : l ≡ part 0 m cur″) where
       made-is : l ≡ take m cur″
       made-is = let x : m - 0 ≡ m = omega arith in c ∙ ap (λ (y : ℕ). take y cur″) x
 
@@ -213,10 +215,10 @@ module _ {t : List ℕ} {n i e : ℕ} {bs fs owner stack : List ℕ} {o : ℕ} {
           ap (λ (x : ℕ). drop x owner′) (sym z) ∙ sym (lib.Seq.drop-drop 1 n owner′) ∙ ap (drop 1) (p .beyond) ∙ lib.Seq.drop-drop 1 n (set owner n 0) ∙ ap (λ (x : ℕ). drop x (set owner n 0)) z ∙ beyond-set
 
       pub turn-walked : length owner′ ≡ length owner → (r : Bool) → r ≡ isCall (part i e t) && (eqb (getD fs n 0) 1 && not (isControlLine (part i e t))) → r ≡ true → {stack′ : List ℕ} {x : ℕ} →
-          Wrote stack height (unlines (l ∷ [])) stack′ x → TurnedLine t n owner owner′ stack′ o x
+          Wrote stack height (unlines (l ∷ [])) stack′ x → TurnedLine t bs fs n owner owner′ stack′ o x
       turn-walked s r q z {stack′} {x} y = record {
-        keeps = subst (λ (rows : List Row). Keeps t (suc n) rows owner′ stack′ x) (sym (rows-walked t n in-lines (tries-is r q ∙ z)))
-            (push-keeps (p .keeps) in-lines (walk-rows t n in-lines) (itemAt t n) (walkAt t n .act) l (walk-acts t n in-lines) (p .line ∙ ap (λ (k : List ℕ). k ∷ []) (sym made-is)) (omega (arith, s, v .many)) owner-last y);
+        keeps = subst (λ (rows : List Row). Keeps t (suc n) rows owner′ stack′ x) (sym (rows-walked t bs fs n in-lines blocks-in (tries-is r q ∙ z)))
+            (push-keeps (p .keeps) in-lines (walk-rows t bs fs n in-lines blocks-in) (itemAt t bs n) (walkAt t bs fs n .act) l (walk-acts t bs fs n in-lines blocks-in) (p .line ∙ ap (λ (k : List ℕ). k ∷ []) (sym made-is)) (omega (arith, s, v .many)) owner-last y);
         beyond = owner-rest;
         room = omega (arith, y .place, line-long l, made-size, p .room, size-is, line-size);
       }
@@ -229,7 +231,7 @@ pub record Passes (t bs fs owner₀ stack₀ cur₀ next₀ owner stack cur next
   pub here : linesOf (drop i t) ≡ drop n (linesOf t)
   pub above : i < length t → take i t ≡ unlines (take n (linesOf t))
   pub low : i < length t → o ≤ i
-  pub keeps : Keeps t n (rowsAt t n) owner stack o
+  pub keeps : Keeps t n (rowsAt t bs fs n) owner stack o
   pub n≤ : n ≤ length (linesOf t)
   pub beyond : drop n owner ≡ drop n owner₀
   pub same-owner : length owner ≡ length owner₀
@@ -301,7 +303,7 @@ module _ {t bs fs owner₀ stack₀ cur₀ next₀ owner stack cur next : List �
         ∙ ap (λ (x : List ℕ). unlines (take n (linesOf t)) ++ x) (part-more t i e (end-after r) k ∙ ap (λ (x : ℕ). part i e t ++ (x ∷ [])) b ∙ ap (λ (x : List ℕ). x ++ (10 ∷ [])) (line-here r))
         ∙ sym (ap unlines (take-suc (linesOf t) n [] some-line) ∙ unlines-append (take n (linesOf t)) (lineAt t n ∷ []))
 
-    pub passes-on : {owner′ stack′ cur′ next′ : List ℕ} {o′ i′ : ℕ} → TurnedLine t n owner owner′ stack′ o o′ → i′ ≡ min (e + 1) (length t) →
+    pub passes-on : {owner′ stack′ cur′ next′ : List ℕ} {o′ i′ : ℕ} → TurnedLine t bs fs n owner owner′ stack′ o o′ → i′ ≡ min (e + 1) (length t) →
         length owner′ ≡ length owner → length stack′ ≡ length stack → length cur′ ≡ length cur → length next′ ≡ length next →
         Passes t bs fs owner₀ stack₀ cur₀ next₀ owner′ stack′ cur′ next′ i′ (n + 1) o′
     passes-on {owner′} {stack′} {cur′} {next′} {o′} {i′} w z l₁ l₂ l₃ l₄ =
@@ -331,19 +333,19 @@ module _ {t bs fs owner₀ stack₀ cur₀ next₀ owner stack cur next : List �
           next-room = v .next-room;
         }
 
-  pub passes-end : length t ≤ i → Rebuilt t owner₀ owner stack o
+  pub passes-end : length t ≤ i → Rebuilt t bs fs owner₀ owner stack o
   unfolding rebuildCalls rebuildCallsActs
   passes-end h =
       let z : length (drop n (linesOf t)) ≡ 0 = ap length (sym (v .here) ∙ lines-end t i h) in
       let m : n ≡ length (linesOf t) = omega (arith, length-drop n (linesOf t), v .n≤) in
-      let r : actsUp (rowsAt t n) [] ≡ rebuildCallsActs (leavesOf plain) (linesOf t) = ap (λ (x : ℕ). actsUp (rowsAt t x) []) m ∙ ap (λ (x : List Row). actsUp x []) (rows-end t) in
-      let xs : List ℕ = ownersOf (rebuildCallsActs (leavesOf plain) (linesOf t)) in
-      let s : length xs ≡ n = ap (λ (x : List Act). length (ownersOf x)) (sym r) ∙ owners-rows (rowsAt t n) ∙ many-at t n (v .n≤) in
+      let r : actsUp (rowsAt t bs fs n) [] ≡ rebuildCallsActs (tabled bs fs) (linesOf t) = ap (λ (x : ℕ). actsUp (rowsAt t bs fs x) []) m ∙ ap (λ (x : List Row). actsUp x []) (rows-end t bs fs) in
+      let xs : List ℕ = ownersOf (rebuildCallsActs (tabled bs fs) (linesOf t)) in
+      let s : length xs ≡ n = ap (λ (x : List Act). length (ownersOf x)) (sym r) ∙ owners-rows (rowsAt t bs fs n) ∙ many-at t bs fs n (v .n≤) in
       record {
         owners = record {
           place = sym (s ∙ m);
           holds = sym (take-append-drop n owner) ∙ ap (λ (x : List ℕ). x ++ drop n owner) (v .keeps .owners ∙ ap ownersOf r) ∙ ap (λ (x : List ℕ). xs ++ x) (v .beyond ∙ ap (λ (k : ℕ). drop k owner₀) (sym s));
         };
-        lines = v .keeps .stands ∙ ap (λ (x : List Act). unlines (apply x (take n (linesOf t)))) r ∙ ap (λ (x : List (List ℕ)). unlines (apply (rebuildCallsActs (leavesOf plain) (linesOf t)) x)) (take-all n (linesOf t) (omega arith));
+        lines = v .keeps .stands ∙ ap (λ (x : List Act). unlines (apply x (take n (linesOf t)))) r ∙ ap (λ (x : List (List ℕ)). unlines (apply (rebuildCallsActs (tabled bs fs) (linesOf t)) x)) (take-all n (linesOf t) (omega arith));
         fits = v .keeps .fits;
       }

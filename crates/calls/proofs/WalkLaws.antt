@@ -7,12 +7,13 @@ use native.Mathlib.Omega.{arith}
 use lib.Dec.{eqb}
 use lib.ListN.{length}
 use Rattle.lines.specs.Acts.{Act, keep, become, into, gone, act}
-use Rattle.reading.specs.Reading.{Reading}
+use Rattle.reading.specs.Reading.{plain}
+use Rattle.place.specs.Region.{isHeader}
 use Rattle.reading.specs.Uses.{lineReads}
 use Rattle.forms.specs.Breaks.{breaks}
-use Rattle.calls.specs.Leaves.{Leaves, store}
-use Rattle.calls.specs.LeavesOf.{parsedOf, contextOf, startsBelow, leavesOf}
-use Rattle.calls.specs.Calls.{Item, Row, Step, end, skip, absorb, rowLines, has, readLater, breaksOne, putBy, storeStep, stepAt}
+use Rattle.calls.specs.Leaves.{Leaves, store, Context, unclear, target, newed, operand}
+use Rattle.calls.specs.LeavesOf.{parsedOf, contextOf, leavesBy, leavesOf}
+use Rattle.calls.specs.Calls.{Item, Row, Step, end, skip, absorb, rowLines, storesIn, has, readLater, breaksOne, putBy, storeStep, stepAt}
 use Rattle.calls.specs.Inner.Steps.{breaksDown, absorbStep}
 use Rattle.calls.specs.Inner.Tables.{ownerOf}
 use Rattle.calls.proofs.Edges.{takenLines, taken-lines, Passed, none-yet, over-row, took-row, ownerBack, by-table}
@@ -67,15 +68,31 @@ row-stands L b later (become y) x t d over cur took lines above q = let e : y �
 row-stands L b later (into n) x t d over cur took lines above q = let z : _≡_ {A = ℕ} 0 1 = cc in absurd (omega arith)
 row-stands L b later gone x t d over cur took lines above q = let z : _≡_ {A = ℕ} 0 1 = cc in absurd (omega arith)
 
+-- a read below and the value that is put in do not hang on starts and blocks
+pub later-same : (starts : List (List ℕ) → Bool) (blocks : List (List ℕ) → List ℕ) (v : ℕ) (ls : List (List ℕ)) →
+    readLater (leavesBy starts blocks) v ls ≡ readLater (leavesOf plain) v ls
+unfolding readLater
+later-same starts blocks v [] = refl
+later-same starts blocks v (l ∷ ls) =
+    ap (λ (more : Bool). cond (isHeader l) false (not (eqb (lineReads v l) 0) || (not (storesIn v (parsedOf l)) && more))) (later-same starts blocks v ls)
+
+pub put-same : (starts : List (List ℕ) → Bool) (blocks : List (List ℕ) → List ℕ) (c : Context) (cur : List ℕ) (v : ℕ) (value : List ℕ) →
+    putBy (leavesBy starts blocks) c cur v value ≡ putBy (leavesOf plain) c cur v value
+unfolding putBy
+put-same starts blocks unclear cur v value = refl
+put-same starts blocks target cur v value = refl
+put-same starts blocks newed cur v value = refl
+put-same starts blocks operand cur v value = refl
+
 -- where it is a store, region, block and start of statement are asked first, and then what the code of one step asks
-pub store-absorb : (R : Reading) (b : ℕ) (below : List (List ℕ)) {back : List Row} {d : ℕ} {took : List ℕ} {lines : List (List ℕ)} → Passed back d took lines →
+pub store-absorb : (starts : List (List ℕ) → Bool) (blocks : List (List ℕ) → List ℕ) (b : ℕ) (below : List (List ℕ)) {back : List Row} {d : ℕ} {took : List ℕ} {lines : List (List ℕ)} → Passed back d took lines →
     (t : List ℕ) (v : ℕ) (value : List ℕ) → parsedOf t ≡ store v value → (over : Bool) (cur : List ℕ) (blk : ℕ) (above : List (List ℕ)) →
-    storeStep (leavesOf R) b (λ (v : ℕ). readLater (leavesOf R) v below) (parsedOf t) over cur lines blk above
-    ≡ cond (not over && (eqb blk b && startsBelow R above)) (absorbStep R cur v value below (rowLines back) (ownersIn back)) end
+    storeStep (leavesBy starts blocks) b (λ (v : ℕ). readLater (leavesBy starts blocks) v below) (parsedOf t) over cur lines blk above
+    ≡ cond (not over && (eqb blk b && starts above)) (absorbStep plain cur v value below (rowLines back) (ownersIn back)) end
 unfolding storeStep absorbStep
-store-absorb R b below {back = back} {lines = lines} p t v value e over cur blk above =
-    rw (e, lines-down (leavesOf R) value p)
-    (go (not over) (eqb blk b) (startsBelow R above) (eqb (lineReads v cur) 1 && (not (readLater (leavesOf R) v below) && not (breaksDown (breaks value) (rowLines back) (ownersIn back)))) (putBy (leavesOf R) (contextOf cur v) cur v value))
+store-absorb starts blocks b below {back = back} {lines = lines} p t v value e over cur blk above =
+    rw (e, lines-down (leavesBy starts blocks) value p, later-same starts blocks v below, put-same starts blocks (contextOf cur v) cur v value)
+    (go (not over) (eqb blk b) (starts above) (eqb (lineReads v cur) 1 && (not (readLater (leavesOf plain) v below) && not (breaksDown (breaks value) (rowLines back) (ownersIn back)))) (putBy (leavesOf plain) (contextOf cur v) cur v value))
   where
     go : (f g h k : Bool) (s : Step) → cond (f && (g && (h && k))) s end ≡ cond (f && (g && h)) (cond k s end) end
     go false g h k s = refl

@@ -9,29 +9,44 @@ use lib.Seq.{length-take-le}
 use Rattle.lines.specs.Lf.{part, linesOf, unlines, endsIn}
 use Rattle.lines.specs.Inner.Out.{putAt, Wrote}
 use Rattle.lines.proofs.StepLaws.{missingLf, missing-ended, missing-empty, missing-open, lines-text}
+use Rattle.lexical.specs.Joined.{restsIn}
 use Rattle.place.specs.Blocks.{cleaned}
 use Rattle.place.specs.Inner.Blocks.{blockIds}
 use Rattle.place.specs.Starts.{startsGo}
 use Rattle.place.specs.Inner.Fill.{Filled, flagsOf}
 use Rattle.place.proofs.Fills.{filled-take, filled-length}
-use Rattle.place.proofs.Lengths.{lengths}
-use Rattle.reading.specs.Reading.{plain}
+use Rattle.records.proofs.Filled.{FilledBy, block-count, start-count}
+use Rattle.reading.specs.Reading.{strictAt, joinedAt, readingOf}
 use Rattle.calls.specs.LeavesOf.{leavesOf}
-use Rattle.calls.specs.Calls.{rebuildCalls}
-use Rattle.calls.specs.Inner.Tables.{Placed, Rebuilt}
+use Rattle.calls.specs.Calls.{rebuildCallsActs, rebuildCalls}
+use Rattle.calls.specs.Inner.Tables.{tabled, Placed, Rebuilt}
+use Rattle.calls.proofs.Tabled.{tabled-acts, tabled-is}
 
 -- ---- the tables
 
-pub placed-by : {t b₀ b s₀ s : List ℕ} {r : ℕ} → length (linesOf t) ≤ length b₀ → length (linesOf t) ≤ length s₀ → Filled b₀ (blockIds (linesOf t)) b r → Filled s₀ (flagsOf (startsGo (cleaned (linesOf t)) true)) s r → Placed t b s
-placed-by {t} {b₀} {b} {s₀} {s} {r} h k f g =
-    let l = lengths (linesOf t) in
-    let n : length (linesOf t) ≡ r = sym (f .place ∙ l .by-block) in
-    record {
-      blocks-are = ap (λ (x : ℕ). take x b) n ∙ filled-take f;
-      starts-are = ap (λ (x : ℕ). take x s) n ∙ filled-take g;
-      blocks-many = omega (arith, filled-length f (omega (arith, l .by-block)), h);
-      starts-many = omega (arith, filled-length g (omega (arith, l .by-start)), k);
-    }
+-- as `place::place_lines` fills them, in a mode
+module _ (mode : ℕ) (t : List ℕ) {b₀ b s₀ s u₀ u : List ℕ} {r : ℕ} (f : FilledBy (joinedAt mode) t b₀ b s₀ s u₀ u r) where
+  pub placed-by : length (linesOf t) ≤ length b₀ → length (linesOf t) ≤ length s₀ → Placed t b s
+  placed-by h k = record {
+    blocks-many = omega (arith, filled-length (f .0) (omega (arith, block-count (joinedAt mode) (linesOf t))), h);
+    starts-many = omega (arith, filled-length (f .1 .0) (omega (arith, start-count (joinedAt mode) (linesOf t))), k);
+  }
+
+  row-count : r ≡ length (linesOf t)
+  row-count = f .0 .place ∙ block-count (joinedAt mode) (linesOf t)
+
+  blocks-are : take (length (linesOf t)) b ≡ blockIds (restsIn (joinedAt mode) (linesOf t))
+  blocks-are = ap (λ (x : ℕ). take x b) (sym row-count) ∙ filled-take (f .0)
+
+  starts-are : take (length (linesOf t)) s ≡ flagsOf (startsGo (cleaned (restsIn (joinedAt mode) (linesOf t))) true)
+  starts-are = ap (λ (x : ℕ). take x s) (sym row-count) ∙ filled-take (f .1 .0)
+
+  -- what is rebuilt by them is what the mode rebuilds
+  pub acts-by : rebuildCallsActs (tabled b s) (linesOf t) ≡ rebuildCallsActs (leavesOf (readingOf mode)) (linesOf t)
+  acts-by = tabled-acts (strictAt mode) (joinedAt mode) (linesOf t) b s blocks-are starts-are
+
+  pub lines-by : rebuildCalls (tabled b s) (linesOf t) ≡ rebuildCalls (leavesOf (readingOf mode)) (linesOf t)
+  lines-by = tabled-is (strictAt mode) (joinedAt mode) (linesOf t) b s blocks-are starts-are
 
 pub filled-at : {d xs d′ : List ℕ} {r n : ℕ} → Filled d xs d′ r → length xs ≡ n → Filled d xs d′ n
 filled-at f e = record { place = sym e; holds = f .holds }
@@ -39,7 +54,7 @@ filled-at f e = record { place = sym e; holds = f .holds }
 -- ---- the stack at the end
 
 -- its lines, cut out of it
-pub rebuilt-text : {t owner owner′ stack : List ℕ} {r : ℕ} → Rebuilt t owner owner′ stack r → (x : List ℕ) → x ≡ part 0 r stack → x ≡ unlines (rebuildCalls (leavesOf plain) (linesOf t))
+pub rebuilt-text : {t bs fs owner owner′ stack : List ℕ} {r : ℕ} → Rebuilt t bs fs owner owner′ stack r → (x : List ℕ) → x ≡ part 0 r stack → x ≡ unlines (rebuildCalls (tabled bs fs) (linesOf t))
 rebuilt-text {stack = stack} {r = r} b x e = let z : r - 0 ≡ r = omega arith in e ∙ ap (λ (k : ℕ). take k stack) z ∙ b .lines
 
 -- the front of a buffer, wiped

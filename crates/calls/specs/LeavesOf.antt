@@ -57,19 +57,23 @@ startsBelow R above = startsAbove (reverse (R .clean (reverse above)))
 unfoldable pub blocksBy : Reading → List (List ℕ) → List ℕ
 blocksBy R ls = blocks (R .clean ls)
 
--- the leaves by a reading; the purity of values is not asked
-abbrev pub leavesOf : Reading → Leaves
-leavesOf R =
+-- the leaves by what tells whether a line starts a statement, given the lines above it, and the blocks
+abbrev pub leavesBy : (List (List ℕ) → Bool) → (List (List ℕ) → List ℕ) → Leaves
+leavesBy starts blocks =
     record {
       call = isCall;
       control = isControlLine;
       header = isHeader;
-      starts = startsBelow R;
+      starts = starts;
       parse = parsedOf;
       reads = lineReads;
       breaks = breaks;
       context = contextOf;
       paren = parenIfNeeded;
       replace = λ (l : List ℕ) (v : ℕ) (rep : List ℕ). replaceReg v l rep;
-      blocks = blocksBy R;
+      blocks = blocks;
     }
+
+-- the leaves by a reading; the purity of values is not asked
+abbrev pub leavesOf : Reading → Leaves
+leavesOf R = leavesBy (startsBelow R) (blocksBy R)

@@ -10,11 +10,12 @@ ghost use lib.ListN.{length, getD, replicate};
 ghost use Rattle.lines.specs.Lf.{holds, linesOf, unlines};
 ghost use Rattle.lines.specs.Inner.Out.{Wrote};
 ghost use Rattle.words.specs.Hits.{replacedAt};
+ghost use Rattle.lexical.specs.Joined.{restsIn};
 ghost use Rattle.lexical.specs.Idents.{wordsIn};
 ghost use Rattle.forms.specs.Primary.{parenIfNeeded};
 ghost use Rattle.forms.specs.Control.{isControl};
 ghost use Rattle.forms.specs.Breaks.{breaksWith, breaks};
-ghost use Rattle.reading.specs.Reading.{plain};
+ghost use Rattle.reading.specs.Reading.{plain, joinedAt, readingOf};
 ghost use Rattle.reading.specs.Uses.{lineReads, lineStores};
 ghost use Rattle.place.specs.Blocks.{cleaned};
 ghost use Rattle.place.specs.Inner.Blocks.{blockIds};
@@ -27,7 +28,7 @@ ghost use Rattle.calls.specs.LeavesOf.{isCall, isControlLine, contextOf,
 ghost use Rattle.calls.specs.Calls.{readLater, putBy, rebuildCallsActs, rebuildCalls};
 ghost use Rattle.calls.specs.Inner.Steps.{isSecond, mayControl, breaksDown, wrappedCall, absorbStep, PutAs};
 ghost use Rattle.calls.specs.Inner.Later.{Noted, Spans};
-ghost use Rattle.calls.specs.Inner.Tables.{rowsAt, Keeps, Stands, Placed, Foot, Peaked, Ready, TurnedLine, Rebuilt, ownersOf};
+ghost use Rattle.calls.specs.Inner.Tables.{tabled, rowsAt, Keeps, Stands, Placed, Foot, Peaked, Ready, TurnedLine, Rebuilt, ownersOf};
 
 // What putting a value into a line makes: a line of so many bytes, or nothing.
 pub enum Made {
@@ -315,12 +316,12 @@ fn walk_up(
     cur: &mut [u8],
     next: &mut [u8],
 ) -> Peak
-    requires { ⌜ (Keeps (now text) n (rowsAt (now text) n) (now owner) (now stack) o)
+    requires { ⌜ (Keeps (now text) n (rowsAt (now text) (now blocks) (now starts) n) (now owner) (now stack) o)
         × ((Stands (now text) n i below)
         × ((Placed (now text) (now blocks) (now starts))
         × ((Foot (now text) n top (now cur) size)
         × ((o + size ≤ length (now cur)) × ((o + size ≤ length (now next)) × (Spans (now text) (now notes))))))) ⌝ }
-    ensures { λ r. ⌜ Peaked (now (text .entry)) n (now (owner .entry)) (now (owner .exit)) (now (stack .entry)) (now (cur .exit)) (r .height) (r .size) (o + size) ⌝ }
+    ensures { λ r. ⌜ Peaked (now (text .entry)) (now (blocks .entry)) (now (starts .entry)) n (now (owner .entry)) (now (owner .exit)) (now (stack .entry)) (now (cur .exit)) (r .height) (r .size) (o + size) ⌝ }
 {
     let mut k = n;
     let mut p = i;
@@ -391,7 +392,7 @@ fn turn_line(
     next: &mut [u8],
 ) -> usize
     requires { ⌜ (Ready (now text) n i e (now blocks) (now starts) (now owner) (now stack) o (now cur) (now next)) × (Spans (now text) (now notes)) ⌝ }
-    ensures { λ r. ⌜ TurnedLine (now (text .entry)) n (now (owner .entry)) (now (owner .exit)) (now (stack .exit)) o r ⌝ }
+    ensures { λ r. ⌜ TurnedLine (now (text .entry)) (now (blocks .entry)) (now (starts .entry)) n (now (owner .entry)) (now (owner .exit)) (now (stack .exit)) o r ⌝ }
 {
     owner[n] = 0;
     if !takes(&text[i..e], starts[n] == 1) {
@@ -438,7 +439,7 @@ fn rebuild_lines(
     requires { ⌜ (0 < length (now recs)) × ((Placed (now text) (now blocks) (now starts))
         × ((length (linesOf (now text)) ≤ length (now owner)) × ((length (unlines (linesOf (now text))) ≤ length (now stack))
         × ((length (now text) ≤ length (now cur)) × ((length (now text) ≤ length (now next)) × ((Told (now text) (now ends) (now blocks) m) × (Spans (now text) (now notes)))))))) ⌝ }
-    ensures { λ r. ⌜ Rebuilt (now (text .entry)) (now (owner .entry)) (now (owner .exit)) (now (stack .exit)) r ⌝ }
+    ensures { λ r. ⌜ Rebuilt (now (text .entry)) (now (blocks .entry)) (now (starts .entry)) (now (owner .entry)) (now (owner .exit)) (now (stack .exit)) r ⌝ }
 {
     let mut past = 0;
     let mut n = 0;
@@ -481,7 +482,7 @@ fn rebuild_window(
     requires { ⌜ (Placed (now text) (now blocks) (now starts))
         × ((length (linesOf (now text)) ≤ length (now owner)) × ((length (unlines (linesOf (now text))) ≤ length (now stack))
         × ((length (now text) ≤ length (now cur)) × ((length (now text) ≤ length (now next)) × ((Told (now text) (now ends) (now blocks) m) × (Spans (now text) (now notes))))))) ⌝ }
-    ensures { λ r. ⌜ Rebuilt (now (text .entry)) (now (owner .entry)) (now (owner .exit)) (now (stack .exit)) r ⌝ }
+    ensures { λ r. ⌜ Rebuilt (now (text .entry)) (now (blocks .entry)) (now (starts .entry)) (now (owner .entry)) (now (owner .exit)) (now (stack .exit)) r ⌝ }
 {
     let mut recs = records::window();
     rebuild_lines(
@@ -516,10 +517,10 @@ fn rebuild_with(
     requires { ⌜ ((Placed (now text) (now blocks) (now starts))
         × ((length (linesOf (now text)) ≤ length (now owner)) × ((length (unlines (linesOf (now text))) ≤ length (now stack))
         × ((length (now text) ≤ length (now cur)) × ((length (now text) ≤ length (now next))
-        × (length (unlines (rebuildCalls (leavesOf plain) (linesOf (now text)))) ≤ length (now out)))))))
+        × (length (unlines (rebuildCalls (tabled (now blocks) (now starts)) (linesOf (now text)))) ≤ length (now out)))))))
         × ((Told (now text) (now ends) (now blocks) m) × (Spans (now text) (now notes))) ⌝ }
-    ensures answer { λ r. ⌜ Wrote (now (out .entry)) 0 (unlines (rebuildCalls (leavesOf plain) (linesOf (now (text .entry))))) (now (out .exit)) r ⌝ }
-    ensures owners { λ _. ⌜ Filled (now (owner .entry)) (ownersOf (rebuildCallsActs (leavesOf plain) (linesOf (now (text .entry))))) (now (owner .exit)) (length (linesOf (now (text .entry)))) ⌝ }
+    ensures answer { λ r. ⌜ Wrote (now (out .entry)) 0 (unlines (rebuildCalls (tabled (now (blocks .entry)) (now (starts .entry))) (linesOf (now (text .entry))))) (now (out .exit)) r ⌝ }
+    ensures owners { λ _. ⌜ Filled (now (owner .entry)) (ownersOf (rebuildCallsActs (tabled (now (blocks .entry)) (now (starts .entry))) (linesOf (now (text .entry))))) (now (owner .exit)) (length (linesOf (now (text .entry)))) ⌝ }
     ensures scratch { λ _. ⌜ (now (stack .exit) ≡ replicate (length (now (stack .entry))) 0)
         × ((now (cur .exit) ≡ replicate (length (now (cur .entry))) 0) × (now (next .exit) ≡ replicate (length (now (next .entry))) 0)) ⌝ }
 {
@@ -560,6 +561,7 @@ fn whole_size(text: &[u8]) -> usize
 // the line stands that took it in, or 0, `ends`, `blocks`, `starts` and `up` are left as `place::place_lines` fills them, and the front of the
 // three buffers before `out` is wiped.
 pub fn rebuild_calls(
+    mode: reading::Mode,
     text: &[u8],
     own: &[usize],
     ends: &mut [usize],
@@ -576,14 +578,14 @@ pub fn rebuild_calls(
     out: &mut [u8],
 ) -> usize
     requires { ⌜ ((length (linesOf (now text)) ≤ length (now owner)) × ((length (linesOf (now text)) ≤ length (now blocks)) × (length (linesOf (now text)) ≤ length (now starts))))
-        × (((length (idsParents (linesOf (now text))) ≤ length (now up)) × (length (now up) < 2 ^ 32))
+        × (((length (idsParents (restsIn (joinedAt (mode .0)) (linesOf (now text)))) ≤ length (now up)) × (length (now up) < 2 ^ 32))
         × (((length (unlines (linesOf (now text))) ≤ length (now stack)) × ((length (now text) ≤ length (now cur)) × (length (now text) ≤ length (now next))))
-        × ((length (unlines (rebuildCalls (leavesOf plain) (linesOf (now text)))) ≤ length (now out)) × (length (linesOf (now text)) ≤ length (now ends))))) ⌝ }
-    ensures answer { λ r. ⌜ Wrote (now (out .entry)) 0 (unlines (rebuildCalls (leavesOf plain) (linesOf (now (text .entry))))) (now (out .exit)) r ⌝ }
-    ensures owners { λ _. ⌜ Filled (now (owner .entry)) (ownersOf (rebuildCallsActs (leavesOf plain) (linesOf (now (text .entry))))) (now (owner .exit)) (length (linesOf (now (text .entry)))) ⌝ }
-    ensures tables { λ _. ⌜ (Filled (now (blocks .entry)) (blockIds (linesOf (now (text .entry)))) (now (blocks .exit)) (length (linesOf (now (text .entry)))))
-        × ((Filled (now (starts .entry)) (flagsOf (startsGo (cleaned (linesOf (now (text .entry)))) true)) (now (starts .exit)) (length (linesOf (now (text .entry)))))
-        × (Filled (now (up .entry)) (idsParents (linesOf (now (text .entry)))) (now (up .exit)) (length (idsParents (linesOf (now (text .entry))))))) ⌝ }
+        × ((length (unlines (rebuildCalls (leavesOf (readingOf (mode .0))) (linesOf (now text)))) ≤ length (now out)) × (length (linesOf (now text)) ≤ length (now ends))))) ⌝ }
+    ensures answer { λ r. ⌜ Wrote (now (out .entry)) 0 (unlines (rebuildCalls (leavesOf (readingOf (mode .0))) (linesOf (now (text .entry))))) (now (out .exit)) r ⌝ }
+    ensures owners { λ _. ⌜ Filled (now (owner .entry)) (ownersOf (rebuildCallsActs (leavesOf (readingOf (mode .0))) (linesOf (now (text .entry))))) (now (owner .exit)) (length (linesOf (now (text .entry)))) ⌝ }
+    ensures tables { λ _. ⌜ (Filled (now (blocks .entry)) (blockIds (restsIn (joinedAt (mode .0)) (linesOf (now (text .entry))))) (now (blocks .exit)) (length (linesOf (now (text .entry)))))
+        × ((Filled (now (starts .entry)) (flagsOf (startsGo (cleaned (restsIn (joinedAt (mode .0)) (linesOf (now (text .entry))))) true)) (now (starts .exit)) (length (linesOf (now (text .entry)))))
+        × (Filled (now (up .entry)) (idsParents (restsIn (joinedAt (mode .0)) (linesOf (now (text .entry))))) (now (up .exit)) (length (idsParents (restsIn (joinedAt (mode .0)) (linesOf (now (text .entry)))))))) ⌝ }
     ensures scratch { λ _. ⌜ (Wrote (now (stack .entry)) 0 (replicate (length (unlines (linesOf (now (text .entry))))) 0) (now (stack .exit)) (length (unlines (linesOf (now (text .entry))))))
         × ((Wrote (now (cur .entry)) 0 (replicate (length (now (text .entry))) 0) (now (cur .exit)) (length (now (text .entry))))
         × (Wrote (now (next .entry)) 0 (replicate (length (now (text .entry))) 0) (now (next .exit)) (length (now (text .entry))))) ⌝ }
@@ -593,7 +595,7 @@ pub fn rebuild_calls(
 {
     let m = text.len();
     let h = whole_size(text);
-    let n = place::place_lines(text, blocks, starts, up, ends);
+    let n = place::place_lines(text, reading::is_joined(mode), blocks, starts, up, ends);
     let f = later::note_lines(text, ends, n, own, near, stores, notes);
     let r = rebuild_with(
         text,

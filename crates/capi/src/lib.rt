@@ -5,7 +5,7 @@ ghost use Rattle.limits.specs.Entry.{small, outAfter};
 ghost use Rattle.opt.specs.Room.{After};
 ghost use Rattle.capi.specs.Called.{tidied, passed, tidiedOrigins, passedOrigins, tidyAnswer, onePassAnswer};
 
-// Runs all passes over a text, in mode 0 (plain) or 1 (strict). Returns the number of the answer, and stores its length and its place.
+// Runs all passes over a text, in mode 0 (plain), 1 (strict), 2 (joined) or 3 (both). Returns the number of the answer, and stores its length and its place.
 #[no_mangle]
 pub extern "C" fn optlines_optimize(
     mode: usize,
@@ -34,7 +34,7 @@ pub extern "C" fn optlines_optimize(
     limits::number_of(answer)
 }
 
-// Runs one pass, 1 to 6, over a text, in mode 0 (plain) or 1 (strict). Returns the number of the answer, and stores its length and its place.
+// Runs one pass, 1 to 6, over a text, in mode 0 (plain), 1 (strict), 2 (joined) or 3 (both). Returns the number of the answer, and stores its length and its place.
 #[no_mangle]
 pub extern "C" fn optlines_run_pass(
     pass: usize,

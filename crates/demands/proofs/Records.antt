@@ -20,10 +20,9 @@ use Rattle.origins.specs.Fates.{Fate, at, held, lost, fatesOf, follow, staying,
 use Rattle.origins.proofs.FateLaws.{fates-length, follow-assoc, stay-follow, under, Under, nil, cons, stands, countUp}
 use Rattle.origins.proofs.Tails.{lowers, saidOf, said-tail, records-drop}
 use Rattle.place.specs.Inner.Region.{headed}
-use Rattle.place.specs.Blocks.{cleaned}
 use Rattle.place.specs.Inner.Blocks.{own}
-use Rattle.reading.specs.Reading.{Reading, readingOf}
-use Rattle.reading.proofs.ByLine.{ByLine, mode-by-line}
+use Rattle.reading.specs.Reading.{Reading, cleanIn, joinedAt, readingOf, endsShut}
+use Rattle.reading.proofs.Lined.{mode-lined}
 use Rattle.decls.specs.Decls.{pruneDeclsActs, pruneDecls}
 use Rattle.decls.proofs.Passes as decls
 use Rattle.calls.specs.LeavesOf.{leavesOf}
@@ -131,10 +130,10 @@ accounted out ls fs g =
 -- of any steps one after the other, and so of the whole, and of each pass, in every mode
 pub records-stand : (mode k n : ℕ) (ls : List (List ℕ)) →
     Accounted (length ls) (length (stepsOf (readingOf mode) k n ls)) (wentsOf (stepsOf (readingOf mode) k n ls) ls (stepsFates (readingOf mode) k n ls))
-records-stand mode k n ls = accounted (stepsOf (readingOf mode) k n ls) ls (stepsFates (readingOf mode) k n ls) (steps-goes (mode-by-line mode) k n ls)
+records-stand mode k n ls = accounted (stepsOf (readingOf mode) k n ls) ls (stepsFates (readingOf mode) k n ls) (steps-goes (mode-lined mode) k n ls)
 
 pub pass-stand : (mode k : ℕ) (ls : List (List ℕ)) → Accounted (length ls) (length (stepOf (readingOf mode) k ls)) (wentsOf (stepOf (readingOf mode) k ls) ls (stepFates (readingOf mode) k ls))
-pass-stand mode k ls = accounted (stepOf (readingOf mode) k ls) ls (stepFates (readingOf mode) k ls) (step-goes (mode-by-line mode) ls k)
+pass-stand mode k ls = accounted (stepOf (readingOf mode) k ls) ls (stepFates (readingOf mode) k ls) (step-goes (mode-lined mode) ls k)
 
 -- ---- one after the other
 
@@ -147,7 +146,7 @@ origins-composed mode k zero m ls =
     let z : 0 + m ≡ m = omega arith in
     let y : k ≡ k + 0 = omega arith in
     ap (λ (i : ℕ). stepsFates R k i ls) z ∙ ap (λ (i : ℕ). stepsFates R i m ls) y
-    ∙ sym (ap (λ (i : ℕ). follow (staying i 0) (stepsFates R (k + 0) m ls)) (sym (steps-goes (mode-by-line mode) (k + 0) m ls .many)) ∙ stay-follow (stepsFates R (k + 0) m ls))
+    ∙ sym (ap (λ (i : ℕ). follow (staying i 0) (stepsFates R (k + 0) m ls)) (sym (steps-goes (mode-lined mode) (k + 0) m ls .many)) ∙ stay-follow (stepsFates R (k + 0) m ls))
 origins-composed mode k (suc n) m ls =
     let R : Reading = readingOf mode in
     let z : suc n + m ≡ suc (n + m) = omega arith in
@@ -171,22 +170,23 @@ unfolding headed
 decls-cut upper [] h = no h
 decls-cut upper (l ∷ ls) h = decls.acts-cut l ls h upper
 
--- what is said of a tail in one of the three passes, in each mode: what is said of the tail alone, the output lines shifted by the lines that come out above
-pub cut-said : {k : ℕ} → Cuts k → (mode : ℕ) (upper tail : List (List ℕ)) → headed tail ≡ true → own (cleaned tail) ≡ true →
+-- what is said of a tail in one of the three passes, in each mode: what is said of the tail alone, the output lines shifted by the lines that come out above.
+-- Where lines are joined, nothing may be open where the tail begins
+pub cut-said : {k : ℕ} → Cuts k → (mode : ℕ) (upper tail : List (List ℕ)) → headed tail ≡ true → endsShut (joinedAt mode) upper ≡ true → own (cleanIn (joinedAt mode) tail) ≡ true →
     drop (length upper) (wentsOf (stepOf (readingOf mode) k (upper ++ tail)) (upper ++ tail) (stepFates (readingOf mode) k (upper ++ tail)))
     ≡ lowers (length (stepOf (readingOf mode) k upper)) (wentsOf (stepOf (readingOf mode) k tail) tail (stepFates (readingOf mode) k tail))
 unfolding stepOf stepFates saidOf rebuildCalls pruneDecls bindDeclarators
-cut-said rebuilds mode upper tail h o =
-    cut-acts (rebuildCallsActs (leavesOf (readingOf mode))) upper tail (calls.calls-acts-cut (mode-by-line mode) upper tail h o) (calls.calls-length (mode-by-line mode))
-cut-said prunes mode upper tail h o = cut-acts pruneDeclsActs upper tail (decls-cut upper tail h) decls.acts-length
-cut-said binds mode upper tail h o = cut-acts (bindDeclaratorsActs (readingOf mode)) upper tail (bind.bind-acts-cut (mode-by-line mode) upper tail h o) (bind.bind-length (mode-by-line mode))
+cut-said rebuilds mode upper tail h s o =
+    cut-acts (rebuildCallsActs (leavesOf (readingOf mode))) upper tail (calls.calls-acts-cut (mode-lined mode) upper tail h s o) (calls.calls-length (mode-lined mode))
+cut-said prunes mode upper tail h s o = cut-acts pruneDeclsActs upper tail (decls-cut upper tail h) decls.acts-length
+cut-said binds mode upper tail h s o = cut-acts (bindDeclaratorsActs (readingOf mode)) upper tail (bind.bind-acts-cut (mode-lined mode) upper tail h s o) (bind.bind-length (mode-lined mode))
 
 -- and the bytes: behind the records of the upper lines stand those of the tail, the first of its lines numbered by the lines above it
-pub cut-records : {k : ℕ} → Cuts k → (mode : ℕ) (upper tail : List (List ℕ)) → headed tail ≡ true → own (cleaned tail) ≡ true →
+pub cut-records : {k : ℕ} → Cuts k → (mode : ℕ) (upper tail : List (List ℕ)) → headed tail ≡ true → endsShut (joinedAt mode) upper ≡ true → own (cleanIn (joinedAt mode) tail) ≡ true →
     drop (7 * length upper) (fileOf (formShape form.Ol) (wentsOf (stepOf (readingOf mode) k (upper ++ tail)) (upper ++ tail) (stepFates (readingOf mode) k (upper ++ tail))))
     ≡ recordsFrom (formShape form.Ol) (length upper) (lowers (length (stepOf (readingOf mode) k upper)) (wentsOf (stepOf (readingOf mode) k tail) tail (stepFates (readingOf mode) k tail)))
 unfolding fileOf
-cut-records {k} c mode upper tail h o =
+cut-records {k} c mode upper tail h s o =
     let F : Shape = formShape form.Ol in
     let n : ℕ = length upper in
     let ws : List Went = wentsOf (stepOf (readingOf mode) k (upper ++ tail)) (upper ++ tail) (stepFates (readingOf mode) k (upper ++ tail)) in
@@ -197,4 +197,4 @@ cut-records {k} c mode upper tail h o =
     ∙ records-drop F (take n ws) (drop n ws) 0
     ∙ ap (λ (i : ℕ). recordsFrom F (i + 0) (drop n ws)) q
     ∙ ap (λ (i : ℕ). recordsFrom F i (drop n ws)) z
-    ∙ ap (recordsFrom F n) (cut-said c mode upper tail h o)
+    ∙ ap (recordsFrom F n) (cut-said c mode upper tail h s o)

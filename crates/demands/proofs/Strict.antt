@@ -19,7 +19,7 @@ use Rattle.parse.specs.Parse.{parseOf, textOf}
 use Rattle.expr.specs.Quotes.{holdsCall}
 use Rattle.expr.proofs.CallLaws.{strict-no-call, bare-no-call}
 use Rattle.lexical.specs.Phi.{phiRhsPure}
-use Rattle.reading.specs.Reading.{Reading, readingOf, pureIn}
+use Rattle.reading.specs.Reading.{Reading, readingBy, pureIn}
 use Rattle.reading.specs.Assign.{rightOf}
 use Rattle.temps.specs.Temps.{tempAct}
 use Rattle.temps.specs.Inner.Scratch.{tempGoes}
@@ -30,12 +30,12 @@ use Rattle.once.proofs.Reasons.{Reason, as-load, as-dead, dropped-reason}
 use Rattle.phis.specs.Phis.{phiStore, phiDead}
 use Rattle.phis.proofs.Keeps.{storeGoes}
 
--- the reading of strict mode
-abbrev strict : Reading
-strict = readingOf 1
+-- the readings of strict mode, joined or not
+abbrev strict : Bool → Reading
+strict joined = readingBy true joined
 
-pure-calls : (v : List ℕ) → pureIn strict v ≡ true → holdsCall v ≡ false
-pure-calls v h = strict-no-call v h
+pure-calls : (joined : Bool) (v : List ℕ) → pureIn (strict joined) v ≡ true → holdsCall v ≡ false
+pure-calls joined v h = strict-no-call v h
 
 goes-true : (b : Bool) → cond b gone keep ≡ gone → b ≡ true
 goes-true true h = refl
@@ -48,9 +48,9 @@ goes-true false h = no (ap stays h)
     stays gone = true
 
 -- pass 1
-pub temps-strict : (ls : List (List ℕ)) (l : List ℕ) → tempAct strict ls l ≡ gone → holdsCall (rightOf (trimOf l)) ≡ false
+pub temps-strict : (joined : Bool) (ls : List (List ℕ)) (l : List ℕ) → tempAct (strict joined) ls l ≡ gone → holdsCall (rightOf (trimOf l)) ≡ false
 unfolding tempAct tempGoes
-temps-strict ls l h = pure-calls (rightOf (trimOf l)) (goes-dead strict ls l (goes-true (tempGoes strict ls l) h) .pure)
+temps-strict joined ls l h = pure-calls joined (rightOf (trimOf l)) (goes-dead (strict joined) ls l (goes-true (tempGoes (strict joined) ls l) h) .pure)
 
 -- ---- pass 2: the value of a dead store is pure, and that of a scratch load is two names with a point between them
 
@@ -78,22 +78,22 @@ member-calls x h =
     λ t e. all-more (λ (b : ℕ). isName b) (λ (b : ℕ). not (eqb b 40)) name-other t (ident-names t e) in
     bare-no-call x (around (λ (b : ℕ). not (eqb b 40)) refl x (name (objectOf x) (and-left (isIdent (objectOf x)) _ k)) (name (drop (suc (upTo 46 x)) x) (and-right (isIdent (objectOf x)) _ k)))
 
-reason-calls : (d : Spot) (below : List Spot) → Reason strict d below → holdsCall (textOf (d .line) (parseOf (d .line))) ≡ false
+reason-calls : (joined : Bool) (d : Spot) (below : List Spot) → Reason (strict joined) d below → holdsCall (textOf (d .line) (parseOf (d .line))) ≡ false
 unfolding scratchAt
-reason-calls d below (as-dead r) = rw (r .reads) (pure-calls _ (r .pure))
-reason-calls d below (as-load r) = rw (r .reads) (member-calls _ (and-left (isMember _) _ (r .load)))
+reason-calls joined d below (as-dead r) = rw (r .reads) (pure-calls joined _ (r .pure))
+reason-calls joined d below (as-load r) = rw (r .reads) (member-calls _ (and-left (isMember _) _ (r .load)))
 
-pub once-strict : (d : Spot) (below : List Spot) → dropped strict d below ≡ true → holdsCall (textOf (d .line) (parseOf (d .line))) ≡ false
-once-strict d below h = reason-calls d below (dropped-reason strict d below h)
+pub once-strict : (joined : Bool) (d : Spot) (below : List Spot) → dropped (strict joined) d below ≡ true → holdsCall (textOf (d .line) (parseOf (d .line))) ≡ false
+once-strict joined d below h = reason-calls joined d below (dropped-reason (strict joined) d below h)
 
 -- pass 3: a value with a call goes only by the original's own test of phis
-pub phis-strict : (ls : List (List ℕ)) (l : List ℕ) → storeGoes strict ls l ≡ true → holdsCall (rightOf (trimStart l)) ≡ true → phiRhsPure (rightOf (trimStart l)) ≡ true
+pub phis-strict : (joined : Bool) (ls : List (List ℕ)) (l : List ℕ) → storeGoes (strict joined) ls l ≡ true → holdsCall (rightOf (trimStart l)) ≡ true → phiRhsPure (rightOf (trimStart l)) ≡ true
 unfolding storeGoes
-phis-strict ls l h c = go (pureIn strict v) refl (and-right (phiDead (phiStore (trimStart l)) ls) (pureIn strict v || phiRhsPure v) h)
+phis-strict joined ls l h c = go (pureIn (strict joined) v) refl (and-right (phiDead (phiStore (trimStart l)) ls) (pureIn (strict joined) v || phiRhsPure v) h)
   where
     v : List ℕ
     v = rightOf (trimStart l)
 
-    go : (b : Bool) → pureIn strict v ≡ b → b || phiRhsPure v ≡ true → phiRhsPure v ≡ true
-    go true e k = no (sym (pure-calls v e) ∙ c)
+    go : (b : Bool) → pureIn (strict joined) v ≡ b → b || phiRhsPure v ≡ true → phiRhsPure v ≡ true
+    go true e k = no (sym (pure-calls joined v e) ∙ c)
     go false e k = k

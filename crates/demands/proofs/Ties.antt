@@ -7,14 +7,15 @@ use mathlib.Core.List.{List, [], _∷_, reverse, reverseAux}
 use native.Mathlib.Omega.{arith}
 use lib.ListN.{length, take, getD}
 use Rattle.lexical.specs.Inner.Idents.{identWords}
+use Rattle.lexical.specs.Joined.{restsIn}
 use Rattle.place.specs.Blocks.{blocks}
 use Rattle.place.specs.Inner.Blocks.{blockIds}
 use Rattle.place.specs.Starts.{startsAfter, startsAbove, startsGo}
-use Rattle.reading.specs.Reading.{readingOf}
+use Rattle.reading.specs.Reading.{joinedAt, readingOf}
 use Rattle.forms.specs.Breaks.{breaksWith, breaks}
 
--- `block_ids`: the block numbers that passes 4 and 6 ask in each mode are those of the lines, cleaned
-pub block-ids-are : (mode : ℕ) (ls : List (List ℕ)) → blockIds ls ≡ blocks (readingOf mode .clean ls)
+-- `block_ids`: the block numbers that passes 4 and 6 ask in each mode are those of the lines, or of their rests, cleaned
+pub block-ids-are : (mode : ℕ) (ls : List (List ℕ)) → blockIds (restsIn (joinedAt mode) ls) ≡ blocks (readingOf mode .clean ls)
 block-ids-are mode ls = refl
 
 -- `ident_words`: the words that a value needs are those of the value

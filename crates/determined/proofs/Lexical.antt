@@ -42,3 +42,6 @@ low-last-fixed = fixed lexical.low_last.Reads.Learnt (λ κs a x y l m. l ∙ sy
 
 pub front-tail-fixed : Determined lexical.front_tail.ended (λ κs z. z) lexical.front_tail.Reads.ensures
 front-tail-fixed = fixed lexical.front_tail.Reads.Learnt (λ κs a x y l m. l ∙ sym m)
+
+pub rest-in-fixed : Determined lexical.rest_in.ended (λ κs z. z) lexical.rest_in.Reads.ensures
+rest-in-fixed = fixed lexical.rest_in.Reads.Learnt (λ κs a x y l m. l ∙ sym m)

@@ -7,6 +7,9 @@ use Rattle.determined.proofs.Outcomes.{Determined, fixed}
 pub is-strict-fixed : Determined reading.is_strict.ended (λ κs z. z) reading.is_strict.Reads.ensures
 is-strict-fixed = fixed reading.is_strict.Reads.Learnt (λ κs a x y l m. l ∙ sym m)
 
+pub is-joined-fixed : Determined reading.is_joined.ended (λ κs z. z) reading.is_joined.Reads.ensures
+is-joined-fixed = fixed reading.is_joined.Reads.Learnt (λ κs a x y l m. l ∙ sym m)
+
 pub use-of-fixed : Determined reading.use_of.ended (λ κs z. z) reading.use_of.Reads.ensures
 use-of-fixed = fixed reading.use_of.Reads.Learnt (λ κs a x y l m. λ i. record { reads = (l .0 ∙ sym (m .0)) i; stores = (l .1 ∙ sym (m .1)) i })
 

@@ -8,4 +8,5 @@ pub mod PlainLaws
 pub mod MildLaws
 pub mod PhiLaws
 pub mod WordLaws
+pub mod JoinedLaws
 pub mod Examples

@@ -41,36 +41,37 @@ pub token-none : (last : ℕ) (s : List ℕ) (i : ℕ) → length s ≤ i → to
 unfolding tokenAt
 token-none last s i h = rw (drop-of-length-le s h)
 
+-- whether b is the byte after the place i
+pub next-is : (s : List ℕ) (i b : ℕ) → (b ≡ 0 → ⊥) → prefixed (b ∷ []) (drop (i + 1) s) ≡ eqb (getD s (i + 1) 0) b
+next-is s i b n = first-is b (drop (i + 1) s) n ∙ ap (λ (y : ℕ). eqb y b) (next-byte s i)
+
 module _ (last : ℕ) (s : List ℕ) (i : ℕ) (h : i < length s) where
   pub token-place : tokenAt last (drop i s) ≡ tokenOf last (getD s i 0) (drop (i + 1) s)
   unfolding tokenAt
   token-place = rw (cons-at s i h)
 
-  next-is : (b : ℕ) → (b ≡ 0 → ⊥) → prefixed (b ∷ []) (drop (i + 1) s) ≡ eqb (getD s (i + 1) 0) b
-  next-is b n = first-is b (drop (i + 1) s) n ∙ ap (λ (y : ℕ). eqb y b) (next-byte s i)
-
   pub token-line : getD s i 0 ≡ 47 → getD s (i + 1) 0 ≡ 47 → tokenAt last (drop i s) ≡ token (length s - i) Gone
   unfolding tokenOf
   token-line x y =
-      let p : prefixed (47 ∷ []) (drop (i + 1) s) ≡ true = next-is 47 (omega arith) ∙ ap (λ (b : ℕ). eqb b 47) y in
+      let p : prefixed (47 ∷ []) (drop (i + 1) s) ≡ true = next-is s i 47 (omega arith) ∙ ap (λ (b : ℕ). eqb b 47) y in
       let n : suc (length (drop (i + 1) s)) ≡ length s - i = omega (arith, length-drop (i + 1) s) in
       token-place ∙ rw (x, p, n)
 
   pub token-block : (e : ℕ) → e ≡ ends commentLen s (i + 1 + 1) → getD s i 0 ≡ 47 → getD s (i + 1) 0 ≡ 42 → tokenAt last (drop i s) ≡ token (e - i) Gone
   unfolding tokenOf
   token-block e q x y =
-      let p : prefixed (47 ∷ []) (drop (i + 1) s) ≡ false = next-is 47 (omega arith) ∙ ap (λ (b : ℕ). eqb b 47) y in
-      let k : prefixed (42 ∷ []) (drop (i + 1) s) ≡ true = next-is 42 (omega arith) ∙ ap (λ (b : ℕ). eqb b 42) y in
+      let p : prefixed (47 ∷ []) (drop (i + 1) s) ≡ false = next-is s i 47 (omega arith) ∙ ap (λ (b : ℕ). eqb b 47) y in
+      let k : prefixed (42 ∷ []) (drop (i + 1) s) ≡ true = next-is s i 42 (omega arith) ∙ ap (λ (b : ℕ). eqb b 42) y in
       let d : drop 1 (drop (i + 1) s) ≡ drop (i + 1 + 1) s = drop-drop 1 (i + 1) s in
       let n : 2 + commentLen (drop (i + 1 + 1) s) ≡ e - i = omega arith in
       token-place ∙ rw (x, p, k, d, n)
 
   module _ (x : getD s i 0 ≡ 47) (n₁ : getD s (i + 1) 0 ≡ 47 → ⊥) (n₂ : getD s (i + 1) 0 ≡ 42 → ⊥) where
     p₁ : prefixed (47 ∷ []) (drop (i + 1) s) ≡ false
-    p₁ = next-is 47 (omega arith) ∙ ne-eqb (getD s (i + 1) 0) 47 n₁
+    p₁ = next-is s i 47 (omega arith) ∙ ne-eqb (getD s (i + 1) 0) 47 n₁
 
     p₂ : prefixed (42 ∷ []) (drop (i + 1) s) ≡ false
-    p₂ = next-is 42 (omega arith) ∙ ne-eqb (getD s (i + 1) 0) 42 n₂
+    p₂ = next-is s i 42 (omega arith) ∙ ne-eqb (getD s (i + 1) 0) 42 n₂
 
     pub token-pattern : (e : ℕ) → e ≡ ends (patterns false) s (i + 1) → patternAfter last ≡ true → tokenAt last (drop i s) ≡ token (e - i) Literal
     unfolding tokenOf

@@ -1,4 +1,5 @@
 pub mod Lex
 pub mod Phi
 pub mod Idents
+pub mod Joined
 pub mod Inner

@@ -2,9 +2,10 @@
 ghost use mathlib.Core.Path.{_≡_};
 ghost use mathlib.Core.List.{[]};
 ghost use mathlib.Core.Bool.{false, cond, not};
-ghost use Prim.Native.Nat.{ℕ, _+_, _≤_};
-ghost use lib.ListN.{length, take, drop};
-ghost use Rattle.lines.specs.Lf.{all, part};
+ghost use Prim.Native.Nat.{ℕ, _+_, _≤_, _<_};
+ghost use lib.ListN.{length, take, drop, getD};
+ghost use Rattle.lines.specs.Ascii.{ascii};
+ghost use Rattle.lines.specs.Lf.{all, part, holds};
 ghost use Rattle.lines.specs.Inner.Lf.{lacks};
 ghost use Rattle.lines.specs.Inner.Out.{Wrote};
 ghost use Rattle.text.specs.White.{isWhite};
@@ -16,6 +17,8 @@ ghost use Rattle.lexical.specs.Phi.{phiRhsPure};
 ghost use Rattle.lexical.specs.Inner.Phi.{sees, seesAll};
 ghost use Rattle.lexical.specs.Idents.{charLen, joins, noWord};
 ghost use Rattle.lexical.specs.Inner.Idents.{nextWord};
+ghost use Rattle.lexical.specs.Joined.{taken, shutIn, restAt, opensComment, opensTemplate, openOf, openBelow};
+ghost use Rattle.lexical.specs.Inner.Joined.{restIn};
 
 // What becomes of a token: its one byte is kept, a literal leaves `S`, a comment goes.
 pub enum Kind {
@@ -681,4 +684,136 @@ pub fn next_word(t: &[u8], i: usize) -> Word
         return Word::At(text::Span { from: a, to: j });
     }
     Word::None
+}
+
+// What a line leaves open for the next: nothing, a block comment, or a template.
+pub enum Open {
+    Nothing,
+    Comment,
+    Template,
+}
+
+// Whether the block comment whose `/*` stands just before `i` is closed.
+fn comment_shut(s: &[u8], i: usize) -> bool
+    ensures { λ r. ⌜ r ≡ holds (ascii "*/") (drop i (now (s .entry))) ⌝ }
+{
+    lines::contains(lines::cut(s, i, s.len()), b"*/")
+}
+
+// Whether a block comment begins at `i` that is not closed.
+fn opens_comment(s: &[u8], i: usize) -> bool
+    requires { ⌜ i < length (now s) ⌝ }
+    ensures { λ r. ⌜ r ≡ opensComment (getD (now (s .entry)) i 0) (drop (i + 1) (now (s .entry))) ⌝ }
+{
+    if s[i] != b'/' {
+        return false;
+    }
+    let next = i + 1;
+    if lines::byte_at(s, next) != b'*' {
+        return false;
+    }
+    !comment_shut(s, next + 1)
+}
+
+// Whether a template begins at `i` that is not closed.
+fn opens_template(s: &[u8], i: usize) -> bool
+    requires { ⌜ i < length (now s) ⌝ }
+    ensures { λ r. ⌜ r ≡ opensTemplate (getD (now (s .entry)) i 0) (drop (i + 1) (now (s .entry))) ⌝ }
+{
+    if s[i] != b'`' {
+        return false;
+    }
+    !quote_shut(s, i + 1, b'`')
+}
+
+// What a text leaves open that begins with nothing open, token by token.
+fn open_tokens(s: &[u8]) -> Open
+    ensures { λ r. ⌜ r ≡ openOf (now (s .entry)) ⌝ }
+{
+    let mut i = 0;
+    let mut tail = no_tail();
+    while i < s.len() {
+        if opens_comment(s, i) {
+            return Open::Comment;
+        }
+        if opens_template(s, i) {
+            return Open::Template;
+        }
+        let step = step_at(s, i, tail);
+        tail = step.tail;
+        i = step.next;
+    }
+    Open::Nothing
+}
+
+// The same: a text with no backtick and no `/` leaves nothing open.
+fn open_of(s: &[u8]) -> Open
+    ensures { λ r. ⌜ r ≡ openOf (now (s .entry)) ⌝ }
+{
+    if lines::lacks(s, b'`') & lines::lacks(s, b'/') {
+        return Open::Nothing;
+    }
+    open_tokens(s)
+}
+
+// How many bytes at the front of a line belong to what was left open above it.
+fn taken_by(s: &[u8], above: Open) -> usize
+    ensures { λ r. ⌜ r ≡ taken above (now (s .entry)) ⌝ }
+{
+    match above {
+        Open::Nothing => 0,
+        Open::Comment => comment_end(s, 0),
+        Open::Template => quote_end(s, 0, b'`'),
+    }
+}
+
+// Whether what was left open above a line is closed in it.
+fn shuts(s: &[u8], above: Open) -> bool
+    ensures { λ r. ⌜ r ≡ shutIn above (now (s .entry)) ⌝ }
+{
+    match above {
+        Open::Nothing => true,
+        Open::Comment => comment_shut(s, 0),
+        Open::Template => quote_shut(s, 0, b'`'),
+    }
+}
+
+// The rest of a line, past what was left open above it: it is cleaned as a line of its own.
+fn rest_of(s: &[u8], above: Open) -> &[u8]
+    ensures { λ r. ⌜ now r ≡ restAt above (now (s .entry)) ⌝ }
+{
+    lines::cut(s, taken_by(s, above), s.len())
+}
+
+// What a line leaves open for the next, where `above` was left open above it.
+fn open_below(s: &[u8], above: Open) -> Open
+    ensures { λ r. ⌜ r ≡ openBelow above (now (s .entry)) ⌝ }
+{
+    if !shuts(s, above) {
+        return above;
+    }
+    open_of(rest_of(s, above))
+}
+
+// Where the rest of a line begins, and what the line leaves open for the next.
+pub struct Rest {
+    pub from: usize,
+    pub below: Open,
+}
+
+// The rest of a line where lines are `joined`; else the line itself, and it leaves nothing open.
+pub fn rest_in(joined: bool, s: &[u8], above: Open) -> Rest
+    ensures { λ r. ⌜ r ≡ restIn joined above (now (s .entry)) ⌝ }
+{
+    if !joined {
+        return Rest {
+            from: 0,
+            below: Open::Nothing,
+        };
+    }
+    let from = taken_by(s, above);
+    Rest {
+        from,
+        below: open_below(s, above),
+    }
 }

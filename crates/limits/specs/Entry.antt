@@ -31,9 +31,9 @@ byteSize L = 2 * L .bytes + 1
 abbrev pub blockSize : Limits → ℕ
 blockSize L = L .bytes
 
--- there are so many modes, with the numbers from 0 on: plain and strict
+-- there are so many modes, with the numbers from 0 on: plain, strict, joined, and both
 abbrev pub modes : ℕ
-modes = 2
+modes = 4
 
 -- a lent work buffer is shorter than its stated size: the lengths of the six
 abbrev pub isShort : Limits → ℕ → ℕ → ℕ → ℕ → ℕ → ℕ → Bool

@@ -23,7 +23,7 @@ pub struct Task {
 }
 
 // There are so many modes, with the numbers from 0 on.
-pub const MODES: usize = 2;
+pub const MODES: usize = 4;
 
 // The limits of `optimize` and `run_pass`.
 pub const SMALL_BYTES: usize = 16384;

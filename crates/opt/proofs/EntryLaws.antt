@@ -16,7 +16,7 @@ use Rattle.origins.specs.Form.{formShape, fileOf}
 use Rattle.origins.specs.Fates.{Fate, follow, staying, wentsOf}
 use Rattle.origins.proofs.FateLaws.{follow-stay}
 use Rattle.reading.specs.Reading.{Reading, readingOf}
-use Rattle.reading.proofs.ByLine.{ByLine}
+use Rattle.reading.proofs.Lined.{Lined}
 use Rattle.globals.specs.Globals.{removeGlobals}
 use Rattle.temps.specs.Temps.{pruneDeadTemps}
 use Rattle.once.specs.Once.{optimizeOnce}
@@ -168,10 +168,10 @@ result-one R k t =
 
 -- ---- where their lines go
 
-stay-after : {R : Reading} → ByLine R → (k : ℕ) (ls : List (List ℕ)) → follow (stepFates R k ls) (staying (length (stepOf R k ls)) 0) ≡ stepFates R k ls
+stay-after : {R : Reading} {shut : List (List ℕ) → Bool} → Lined R shut → (k : ℕ) (ls : List (List ℕ)) → follow (stepFates R k ls) (staying (length (stepOf R k ls)) 0) ≡ stepFates R k ls
 stay-after {R} c k ls = follow-stay (length (stepOf R k ls)) (stepFates R k ls) (step-goes c ls k .below)
 
-fates-whole : {R : Reading} → ByLine R → (ls : List (List ℕ)) → wholeFates R ls ≡ stepsFates R 0 7 ls
+fates-whole : {R : Reading} {shut : List (List ℕ) → Bool} → Lined R shut → (ls : List (List ℕ)) → wholeFates R ls ≡ stepsFates R 0 7 ls
 unfolding stepsFates stepOf wholeFates
 fates-whole {R} c ls =
     let a = removeGlobals ls in
@@ -183,18 +183,18 @@ fates-whole {R} c ls =
     ap (λ (fs : List Fate). follow (stepFates R 0 ls) (follow (stepFates R 1 a) (follow (stepFates R 2 b) (follow (stepFates R 3 d) (follow (stepFates R 4 e) (follow (stepFates R 5 f) fs))))))
     (sym (stay-after c 6 g))
 
-pub origins-whole : {R : Reading} → ByLine R → (t : List ℕ) → originsOf (whole R) (wholeFates R) t ≡ originsOf (stepsOf R 0 7) (stepsFates R 0 7) t
+pub origins-whole : {R : Reading} {shut : List (List ℕ) → Bool} → Lined R shut → (t : List ℕ) → originsOf (whole R) (wholeFates R) t ≡ originsOf (stepsOf R 0 7) (stepsFates R 0 7) t
 unfolding originsOf
 origins-whole {R} c t =
     let ls : List (List ℕ) = splitLines t in
     ap (λ (out : List (List ℕ)). fileOf (formShape form.Ol) (wentsOf out ls (wholeFates R ls))) (sym (steps-whole R ls))
     ∙ ap (λ (fs : List Fate). fileOf (formShape form.Ol) (wentsOf (stepsOf R 0 7 ls) ls fs)) (fates-whole c ls)
 
-fates-one : {R : Reading} → ByLine R → (k : ℕ) (ls : List (List ℕ)) → stepsFates R k 1 ls ≡ stepFates R k ls
+fates-one : {R : Reading} {shut : List (List ℕ) → Bool} → Lined R shut → (k : ℕ) (ls : List (List ℕ)) → stepsFates R k 1 ls ≡ stepFates R k ls
 unfolding stepsFates
 fates-one c k ls = stay-after c k ls
 
-pub origins-one : {R : Reading} → ByLine R → (k : ℕ) (t : List ℕ) → originsOf (stepOf R k) (stepFates R k) t ≡ originsOf (stepsOf R k (k + 1 - k)) (stepsFates R k (k + 1 - k)) t
+pub origins-one : {R : Reading} {shut : List (List ℕ) → Bool} → Lined R shut → (k : ℕ) (t : List ℕ) → originsOf (stepOf R k) (stepFates R k) t ≡ originsOf (stepsOf R k (k + 1 - k)) (stepsFates R k (k + 1 - k)) t
 unfolding originsOf
 origins-one {R} c k t =
     let ls : List (List ℕ) = splitLines t in

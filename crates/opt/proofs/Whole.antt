@@ -27,7 +27,7 @@ use Rattle.calls.specs.LeavesOf.{leavesOf}
 use Rattle.calls.specs.Calls.{rebuildCalls}
 use Rattle.decls.specs.Decls.{pruneDecls}
 use Rattle.bind.specs.Bind.{bindDeclarators}
-use Rattle.reading.proofs.ByLine.{ByLine}
+use Rattle.reading.proofs.Lined.{Lined}
 use Rattle.limits.specs.declared.Limits.{Limits}
 use Rattle.limits.specs.declared.Answer.{Answer}
 use Rattle.limits.specs.declared.Answer.the-variants.{Done, BadPass, BadMode, TooLong, ShortWork, TooManyLines, ShortResult, ShortRecords}
@@ -116,11 +116,11 @@ result-twice f t p = go (endsIn 10 t) refl
         joined-ended ls (2 * length t) clean (omega (arith, ends-some t e)) (omega (arith, light, q, weight-twice (dropCr t), drop-le t))
     go false e = omega (arith, joined-open ls clean, light, split-weight 0 t, weight-twice t)
 
--- of both entries, for each reading that cleans lines one by one
-pub optimize-twice : {R : Reading} → ByLine R → (t : List ℕ) → length (resultOf (whole R) t) ≤ 2 * length t
+-- of both entries, for each reading that cleans as many lines as there are
+pub optimize-twice : {R : Reading} {shut : List (List ℕ) → Bool} → Lined R shut → (t : List ℕ) → length (resultOf (whole R) t) ≤ 2 * length t
 optimize-twice {R} c t = omega (arith, ap length (result-whole R t), result-twice (stepsOf R 0 7) t (tame-steps c 0 7))
 
-pub pass-twice : {R : Reading} → ByLine R → (k : ℕ) (t : List ℕ) → length (resultOf (stepOf R k) t) ≤ 2 * length t
+pub pass-twice : {R : Reading} {shut : List (List ℕ) → Bool} → Lined R shut → (k : ℕ) (t : List ℕ) → length (resultOf (stepOf R k) t) ≤ 2 * length t
 pass-twice {R} c k t = result-twice (stepOf R k) t (tame-step c k)
 
 -- ---- the edges: one more is refused, the last that fits goes on to the next check

@@ -235,7 +235,7 @@ fn tidy_small(
 }
 
 // Removes the lines that declare globals from a text, runs the six passes over it, and writes the result to the front of `out` and, to that of
-// `orig`, a record for each line of the text that says where it went. Mode 0 reads values as the original does, mode 1 is strict. Of each of the work buffers `a` to `e` 32,769 bytes are used, and of `u` 16,384 numbers: these are 0
+// `orig`, a record for each line of the text that says where it went. Mode 0 reads values as the original does, mode 1 is strict, 2 is joined, and 3 both. Of each of the work buffers `a` to `e` 32,769 bytes are used, and of `u` 16,384 numbers: these are 0
 // afterwards where the passes ran.
 pub fn optimize(
     mode: usize,

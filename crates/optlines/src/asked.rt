@@ -6,21 +6,30 @@ pub enum Passes {
     One(usize),
 }
 
-// What is asked: passes, in the mode of a number, and the place of the argument that names the file for the records; 0 where there is none.
+// What is asked: passes, in strict mode or not, in joined mode or not, and the place of the argument that names the file for the records; 0 where there
+// is none.
 pub struct Task {
     pub passes: Passes,
-    pub mode: usize,
+    pub strict: bool,
+    pub joined: bool,
     pub records: usize,
 }
 
-// The modes.
-pub const PLAIN: usize = 0;
-
-pub const STRICT: usize = 1;
+// The number of the mode that is asked for.
+pub fn mode_of(strict: bool, joined: bool) -> usize {
+    if joined & strict {
+        return 3;
+    }
+    if joined {
+        return 2;
+    }
+    if strict { 1 } else { 0 }
+}
 
 // What an argument is: an option that the program has, `--`, an option that it has not, or a file's name.
 pub enum Word {
     Strict,
+    Joined,
     Pass,
     Origins,
     End,
@@ -32,6 +41,9 @@ pub enum Word {
 pub fn word_at(at: usize) -> Word {
     if is_word(at, b"--strict") {
         return Word::Strict;
+    }
+    if is_word(at, b"--joined") {
+        return Word::Joined;
     }
     if is_word(at, b"--pass") {
         return Word::Pass;

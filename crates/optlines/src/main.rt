@@ -1,4 +1,4 @@
-// Tidies a listing: `optlines [--strict] [--pass N] [--origins RECORDS] [--] [FILE]`, the options in any order. It reads FILE, or
+// Tidies a listing: `optlines [--strict] [--joined] [--pass N] [--origins RECORDS] [--] [FILE]`, the options in any order. It reads FILE, or
 // standard input, and writes the tidy listing, or `refused`, the number and the place, to standard output, and the records of a tidy one to RECORDS. On standard error it says nothing where it tidied, `optlines: refused ..` first where it refused, and
 // anything else where it could not read or write: a program in Rattle sets no exit status, so tools/front.sh makes one of that.
 mod asked;
@@ -91,7 +91,7 @@ fn run_one(pass: usize, mode: usize, text: &[u8], out: &mut [u8], orig: &mut [u8
 // Does to a text what is asked.
 fn answer_to(task: Task, text: &[u8], out: &mut [u8], orig: &mut [u8]) -> Answer {
     let passes = task.passes;
-    let mode = task.mode;
+    let mode = asked::mode_of(task.strict, task.joined);
     match passes {
         Passes::All => tidy(mode, text, out, orig),
         Passes::One(pass) => run_one(pass, mode, text, out, orig),
@@ -237,11 +237,13 @@ fn take_pass(task: Task, at: usize) -> Taken {
     match asked::number_of(at) {
         asked::Number::Is(pass) => {
             let passes = Passes::One(pass);
-            let mode = task.mode;
+            let strict = task.strict;
+            let joined = task.joined;
             let records = task.records;
             let task = Task {
                 passes,
-                mode,
+                strict,
+                joined,
                 records,
             };
             let at = asked::past(at);
@@ -261,10 +263,12 @@ fn take_records(task: Task, at: usize) -> Taken {
         return Taken::Wrong;
     }
     let passes = task.passes;
-    let mode = task.mode;
+    let strict = task.strict;
+    let joined = task.joined;
     let task = Task {
         passes,
-        mode,
+        strict,
+        joined,
         records: at,
     };
     let at = asked::past(at);
@@ -277,10 +281,24 @@ fn take(task: Task, at: usize) -> Taken {
     match asked::word_at(at) {
         Word::Strict => {
             let passes = task.passes;
+            let joined = task.joined;
             let records = task.records;
             let task = Task {
                 passes,
-                mode: asked::STRICT,
+                strict: true,
+                joined,
+                records,
+            };
+            Taken::Option(Next { task, at: next })
+        }
+        Word::Joined => {
+            let passes = task.passes;
+            let strict = task.strict;
+            let records = task.records;
+            let task = Task {
+                passes,
+                strict,
+                joined: true,
                 records,
             };
             Taken::Option(Next { task, at: next })
@@ -300,7 +318,8 @@ fn take(task: Task, at: usize) -> Taken {
 fn main() {
     let mut task = Task {
         passes: Passes::All,
-        mode: asked::PLAIN,
+        strict: false,
+        joined: false,
         records: 0,
     };
     let mut at = 1;

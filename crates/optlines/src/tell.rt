@@ -76,7 +76,7 @@ fn explain_pass() {
 
 fn explain_mode() {
     say(b"there is no mode of that number\n");
-    say(b"optlines: the modes have the numbers 0, plain, and 1, strict\n");
+    say(b"optlines: the modes have the numbers 0, plain, 1, strict, 2, joined, and 3, both\n");
 }
 
 fn explain_long(text: &[u8], place: usize) {

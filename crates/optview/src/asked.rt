@@ -12,15 +12,22 @@ pub struct Asked {
     pub rest: usize,
 }
 
-// The modes.
-const PLAIN: usize = 0;
-
-const STRICT: usize = 1;
+// The number of the mode that is asked for.
+fn mode_of(strict: bool, joined: bool) -> usize {
+    if joined & strict {
+        return 3;
+    }
+    if joined {
+        return 2;
+    }
+    if strict { 1 } else { 0 }
+}
 
 // What an argument is: an option, `--`, or a file's name.
 enum Word {
     Text,
     Strict,
+    Joined,
     End,
     Name,
 }
@@ -40,6 +47,9 @@ fn word_at(at: usize) -> Word {
     if is_word(at, b"--strict") {
         return Word::Strict;
     }
+    if is_word(at, b"--joined") {
+        return Word::Joined;
+    }
     if is_word(at, b"--") {
         return Word::End;
     }
@@ -47,7 +57,8 @@ fn word_at(at: usize) -> Word {
 }
 
 // What is asked, as a file's name or none stands from a place on.
-fn asked_for(text: bool, mode: usize, rest: usize) -> Asked {
+fn asked_for(text: bool, strict: bool, joined: bool, rest: usize) -> Asked {
+    let mode = mode_of(strict, joined);
     Asked {
         task: Task { text, mode },
         rest,
@@ -62,18 +73,20 @@ pub fn past(at: usize) -> usize {
 // Takes the options, in any order, and `--`.
 pub fn take_words() -> Asked {
     let mut text = false;
-    let mut mode = PLAIN;
+    let mut strict = false;
+    let mut joined = false;
     let mut at = 1;
     let mut left = os::arg_count();
     while 0 < left {
         match word_at(at) {
             Word::Text => text = true,
-            Word::Strict => mode = STRICT,
-            Word::End => return asked_for(text, mode, past(at)),
-            Word::Name => return asked_for(text, mode, at),
+            Word::Strict => strict = true,
+            Word::Joined => joined = true,
+            Word::End => return asked_for(text, strict, joined, past(at)),
+            Word::Name => return asked_for(text, strict, joined, at),
         }
         at = past(at);
         left -= 1;
     }
-    asked_for(text, mode, at)
+    asked_for(text, strict, joined, at)
 }

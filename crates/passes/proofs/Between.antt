@@ -1,7 +1,7 @@
 -- The lines between two passes over a text, and the room that they have. Assumes nothing.
 use Prim.Native.Nat.{ℕ, zero, suc, _+_, _≤_}
 use mathlib.Core.Path.{_≡_, ap}
-use mathlib.Core.Bool.{true}
+use mathlib.Core.Bool.{Bool, true}
 use mathlib.Core.List.{List}
 use native.Mathlib.Omega.{arith}
 use lib.ListN.{length}
@@ -15,7 +15,7 @@ use Rattle.weight.proofs.Weigh.{weight-twice}
 use Rattle.weight.proofs.Moves.{split-weight}
 use Rattle.weight.proofs.Braces.{braces-le}
 use Rattle.reading.specs.Reading.{Reading}
-use Rattle.reading.proofs.ByLine.{ByLine}
+use Rattle.reading.proofs.Lined.{Lined}
 use Rattle.limits.specs.declared.Limits.{Limits}
 use Rattle.limits.specs.Inner.Sane.{Within}
 use Rattle.steps.specs.Inner.Bounds.{Bounded}
@@ -23,7 +23,7 @@ use Rattle.steps.proofs.Tame.{Tame, tame-same, tame-then, tame-step}
 use Rattle.passes.specs.Inner.Passes.{stepsOf}
 
 -- steps one after the other
-pub tame-steps : {R : Reading} → ByLine R → (k n : ℕ) → Tame (stepsOf R k n)
+pub tame-steps : {R : Reading} {shut : List (List ℕ) → Bool} → Lined R shut → (k n : ℕ) → Tame (stepsOf R k n)
 unfolding stepsOf
 tame-steps c k zero = tame-same
 tame-steps c k (suc n) = tame-then (tame-step c k) (tame-steps c (suc k) n)

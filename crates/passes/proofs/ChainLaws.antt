@@ -1,7 +1,7 @@
 -- Laws of running passes one after the other over the front of a buffer. Assumes nothing.
 use Prim.Native.Nat.{ℕ, zero, suc, _+_, _-_, _≤_, _<_}
 use mathlib.Core.Path.{_≡_, refl, sym, ap, _∙_}
-use mathlib.Core.Bool.{true}
+use mathlib.Core.Bool.{Bool, true}
 use mathlib.Core.List.{List, _∷_}
 use native.Mathlib.Omega.{arith}
 use native.Mathlib.Numerals.{add-one}
@@ -17,7 +17,7 @@ use Rattle.origins.specs.Inner.Codes.{half, codeOf, codesOf, landGo, through, s
 use Rattle.origins.proofs.FateLaws.{follow-assoc, stay-follow, follow-stay}
 use Rattle.origins.proofs.CodeLaws.{through-follow}
 use Rattle.reading.specs.Reading.{Reading, readingOf}
-use Rattle.reading.proofs.ByLine.{ByLine, mode-by-line}
+use Rattle.reading.proofs.Lined.{Lined, mode-lined}
 use Rattle.steps.specs.Step.{stepOf, stepFates}
 use Rattle.steps.specs.Inner.Bounds.{Bounded, Sized, Tabled}
 use Rattle.steps.proofs.Tame.{tame-step, room-fits}
@@ -88,7 +88,7 @@ module _ {L : Limits} {a b c d e f g h u v w x p q r t z a′ b′ c′ d′ e�
   }
 
 -- n steps from step k on: where their lines go
-pub steps-goes : {R : Reading} → ByLine R → (k n : ℕ) (ls : List (List ℕ)) → Goes (length ls) (length (stepsOf R k n ls)) (stepsFates R k n ls)
+pub steps-goes : {R : Reading} {shut : List (List ℕ) → Bool} → Lined R shut → (k n : ℕ) (ls : List (List ℕ)) → Goes (length ls) (length (stepsOf R k n ls)) (stepsFates R k n ls)
 unfolding stepsOf stepsFates
 steps-goes c k zero ls = goes-stay (length ls)
 steps-goes {R} c k (suc n) ls = goes-then (step-goes c ls k) (steps-goes c (suc k) n (stepOf R k ls))
@@ -113,7 +113,7 @@ split-fits t a h q = omega (arith, split-room t, h .bytes)
 stay-steps : (mode k n : ℕ) (ls : List (List ℕ)) → follow (staying (length ls) 0) (stepsFates (readingOf mode) k n ls) ≡ stepsFates (readingOf mode) k n ls
 stay-steps mode k n ls =
     let fs : List Fate = stepsFates (readingOf mode) k n ls in
-    ap (λ (i : ℕ). follow (staying i 0) fs) (sym (steps-goes (mode-by-line mode) k n ls .many)) ∙ stay-follow fs
+    ap (λ (i : ℕ). follow (staying i 0) fs) (sym (steps-goes (mode-lined mode) k n ls .many)) ∙ stay-follow fs
 
 land-zeros : (n o : ℕ) → landGo (replicate n 0) o ≡ codesOf (staying n o)
 unfolding landGo codesOf codeOf staying
@@ -163,7 +163,7 @@ unfolding stepsFates
 fates-none R j ls = refl
 
 -- a table of codes through the codes of a step
-step-codes : {R : Reading} → ByLine R → (j : ℕ) (ls : List (List ℕ)) {n : ℕ} {fs : List Fate} → length ls < half → Goes n (length ls) fs → through (codesOf fs) (codesOf (stepFates R j ls)) ≡ codesOf (follow fs (stepFates R j ls))
+step-codes : {R : Reading} {shut : List (List ℕ) → Bool} → Lined R shut → (j : ℕ) (ls : List (List ℕ)) {n : ℕ} {fs : List Fate} → length ls < half → Goes n (length ls) fs → through (codesOf fs) (codesOf (stepFates R j ls)) ≡ codesOf (follow fs (stepFates R j ls))
 step-codes {R} c j ls {n} {fs} h p =
     let q = step-goes c ls j in
     through-follow fs (stepFates R j ls) (goes-under p (omega arith)) (goes-under q (omega (arith, tame-step c j .counts ls))) (omega (arith, q .many))
@@ -174,7 +174,7 @@ module _ {L : Limits} {mode k to : ℕ} {t a z : List ℕ} {n j : ℕ} (h : Chai
 
   -- what a pass wrote to b has room in a
   pub chain-fits : {b b′ : List ℕ} {r : ℕ} → byteSize L ≤ length a → Wrote b 0 (unlines (stepOf (readingOf mode) j (linesOf (take n a)))) b′ r → length (take r b′) ≤ length a
-  chain-fits {b′ = b′} {r = r} l w = omega (arith, length-take r b′, w .place, room-fits (tame-step (mode-by-line mode) j) chain-room)
+  chain-fits {b′ = b′} {r = r} l w = omega (arith, length-take r b′, w .place, room-fits (tame-step (mode-lined mode) j) chain-room)
 
   lines-at : linesOf (take n a) ≡ h .now-lines
   lines-at = ap linesOf (h .front .is) ∙ lines-unlines (h .now-lines) (h .between .clean)
@@ -190,20 +190,20 @@ module _ {L : Limits} {mode k to : ℕ} {t a z : List ℕ} {n j : ℕ} (h : Chai
       let fs : List Fate = h .now-fates in
       let i : ℕ = to - (j + 1) in
       let y : to - j ≡ suc (to - (j + 1)) = omega arith in
-      let led = step-led (mode-by-line mode) j ls z (h .stood) (h .few) in
+      let led = step-led (mode-lined mode) j ls z (h .stood) (h .few) in
       record {
         taken = h .taken;
         now-lines = stepOf R j ls;
-        between = between-on (tame-step (mode-by-line mode) j) (h .between);
+        between = between-on (tame-step (mode-lined mode) j) (h .between);
         front = f;
         so-far = ap (λ (b : ℕ). stepsOf R b i (stepOf R j ls)) (add-one j) ∙ sym (steps-more R j i ls) ∙ ap (λ (m : ℕ). stepsOf R j m ls) (sym y) ∙ h .so-far;
         now-fates = follow fs (stepFates R j ls);
         coded =
             ap (λ (x : List ℕ). landGo x 0) e ∙ led .leads ∙ ap (λ (x : List ℕ). through x (codesOf (stepFates R j ls))) (h .coded)
-            ∙ step-codes (mode-by-line mode) j ls lines-few (h .goes);
+            ∙ step-codes (mode-lined mode) j ls lines-few (h .goes);
         stood = ap standing e ∙ led .left;
         few = omega (arith, ap length e, led .long, h .few);
-        goes = goes-then (h .goes) (step-goes (mode-by-line mode) ls j);
+        goes = goes-then (h .goes) (step-goes (mode-lined mode) ls j);
         so-went =
             ap (λ (b : ℕ). follow (follow fs (stepFates R j ls)) (stepsFates R b i (stepOf R j ls))) (add-one j)
             ∙ follow-assoc fs (stepFates R j ls) (stepsFates R (suc j) i (stepOf R j ls))

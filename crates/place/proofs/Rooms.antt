@@ -13,6 +13,9 @@ use Rattle.text.specs.Trim.{fromOf, toOf, trimOf}
 use Rattle.lexical.specs.declared.Token.{Token}
 use Rattle.lexical.specs.declared.Kind.{Kind}
 use Rattle.lexical.specs.declared.Kind.the-variants.{Kept, Literal, Gone}
+use Rattle.lexical.specs.declared.Open.{Open}
+use Rattle.lexical.specs.declared.Open.the-variants.{Nothing}
+use Rattle.lexical.specs.Joined.{taken, openBelow, restsFrom, restsIn}
 use Rattle.lexical.specs.Lex.{lastOf, tokenOf, leaves, lexGo, stripLexical}
 use Rattle.place.specs.Blocks.{Brace, opens, closes, neither, braceOf}
 use Rattle.place.specs.Paths.{pathCloses}
@@ -184,8 +187,22 @@ pub path-parents-le : (ls : List (List ℕ)) → length (pathParents ls) ≤ cou
 unfolding pathParents
 path-parents-le ls = parents-le pathPre pathPost path-few ls
 
-pub ids-parents-text : (t : List ℕ) → length (idsParents (linesOf t)) ≤ countOf 123 t
-ids-parents-text t = let a = ids-parents-le (linesOf t) in let b = count-all 123 t refl in omega arith
+-- the rests of lines have no more of a byte than the lines
+rests-few : (b : ℕ) (o : Open) (ls : List (List ℕ)) → countAll b (restsFrom o ls) ≤ countAll b ls
+unfolding restsFrom countAll
+rests-few b o [] = omega arith
+rests-few b o (l ∷ ls) = let r = rests-few b (openBelow o l) ls in let d = count-drop b (taken o l) l in omega arith
+
+rests-in-few : (b : ℕ) (joined : Bool) (ls : List (List ℕ)) → countAll b (restsIn joined ls) ≤ countAll b ls
+rests-in-few b true ls = rests-few b Nothing ls
+rests-in-few b false ls = omega arith
+
+pub ids-parents-text : (joined : Bool) (t : List ℕ) → length (idsParents (restsIn joined (linesOf t))) ≤ countOf 123 t
+ids-parents-text joined t =
+    let a = ids-parents-le (restsIn joined (linesOf t)) in
+    let r = rests-in-few 123 joined (linesOf t) in
+    let b = count-all 123 t refl in
+    omega arith
 
 pub path-parents-text : (t : List ℕ) → length (pathParents (linesOf t)) ≤ countOf 123 t
 path-parents-text t = let a = path-parents-le (linesOf t) in let b = count-all 123 t refl in omega arith

@@ -22,87 +22,106 @@ use Rattle.place.proofs.Parents.{moved-none, moved-plain, moved-then, m
 -- ---- the loop
 
 module _ (pre post : List ℕ → List Brace) where
-  pub record LinesInv (t d₀ d u₀ u : List ℕ) (i k c n : ℕ) : Type 0 where
-    pub i≤ : i ≤ length t
-    pub table : Writing 0 (notesGo pre post (linesOf t) 0 []) (notesGo pre post (linesOf (drop i t)) c (take n u)) d₀ d k
-    pub room : Room (flat pre post (linesOf t)) 0 u₀ 0
+  -- over rows, of which `todo` are left
+  pub record RowsInv (rows todo : List (List ℕ)) (d₀ d u₀ u : List ℕ) (k c n : ℕ) : Type 0 where
+    pub table : Writing 0 (notesGo pre post rows 0 []) (notesGo pre post todo c (take n u)) d₀ d k
+    pub room : Room (flat pre post rows) 0 u₀ 0
     pub read : List Brace
     pub moved : Moved read 0 u₀ 0 c u n
-    pub left : read ++ flat pre post (linesOf (drop i t)) ≡ flat pre post (linesOf t)
+    pub left : read ++ flat pre post todo ≡ flat pre post rows
 
-  pub lines-start : (t d u : List ℕ) → length (linesOf t) ≤ length d → length (upsBy (flat pre post (linesOf t)) 0 []) ≤ length u → length u < 2 ^ 32 →
-      LinesInv t d d u u 0 0 0 0
-  lines-start t d u p q r = record {
-    i≤ = omega arith;
-    table = writing-start 0 (notesGo pre post (linesOf t) 0 []) d (omega (arith, notes-length pre post (linesOf t) 0 []));
+  pub rows-start : (rows : List (List ℕ)) (d u : List ℕ) → length rows ≤ length d → length (upsBy (flat pre post rows) 0 []) ≤ length u → length u < 2 ^ 32 →
+      RowsInv rows rows d d u u 0 0 0
+  rows-start rows d u p q r = record {
+    table = writing-start 0 (notesGo pre post rows 0 []) d (omega (arith, notes-length pre post rows 0 []));
     room = record { known = omega arith; fits = q; small = r };
     read = [];
     moved = moved-none 0 u 0 (omega arith);
     left = refl;
   }
 
-  module _ {t d₀ d u₀ u : List ℕ} {i k c n : ℕ} (h : LinesInv t d₀ d u₀ u i k c n) where
-    pub lines-length : length d ≡ length d₀
-    lines-length = writing-length (h .table)
+  module _ {rows todo : List (List ℕ)} {d₀ d u₀ u : List ℕ} {k c n : ℕ} (h : RowsInv rows todo d₀ d u₀ u k c n) where
+    pub rows-length : length d ≡ length d₀
+    rows-length = writing-length (h .table)
 
-    here-room : Room (h .read ++ flat pre post (linesOf (drop i t))) 0 u₀ 0
+    here-room : Room (h .read ++ flat pre post todo) 0 u₀ 0
     here-room = room-as (sym (h .left)) (h .room)
 
-    pub lines-up : length u ≡ length u₀
-    lines-up = room-length (h .read) (flat pre post (linesOf (drop i t))) here-room (h .moved)
+    pub rows-up : length u ≡ length u₀
+    rows-up = room-length (h .read) (flat pre post todo) here-room (h .moved)
 
-    module _ (q : i < length t) (e : ℕ) (z : e ≡ i + upTo 10 (drop i t)) where
-      pub on-notes : notesGo pre post (linesOf (drop i t)) c (take n u)
-          ≡ curBy (pre (part i e t)) c (take n u)
-          ∷ notesGo pre post (linesOf (drop (min (e + 1) (length t)) t)) (curBy (pre (part i e t) ++ post (part i e t)) c (take n u)) (upsBy (pre (part i e t) ++ post (part i e t)) c (take n u))
+    module _ {l : List ℕ} {more : List (List ℕ)} (w : todo ≡ l ∷ more) where
+      on-notes : notesGo pre post todo c (take n u)
+          ≡ curBy (pre l) c (take n u) ∷ notesGo pre post more (curBy (pre l ++ post l) c (take n u)) (upsBy (pre l ++ post l) c (take n u))
       unfolding notesGo
-      on-notes = ap (λ (ls : List (List ℕ)). notesGo pre post ls c (take n u)) (lines-at t i e q z)
+      on-notes = ap (λ (ls : List (List ℕ)). notesGo pre post ls c (take n u)) w
 
-      on-flat : flat pre post (linesOf (drop i t)) ≡ (pre (part i e t) ++ post (part i e t)) ++ flat pre post (linesOf (drop (min (e + 1) (length t)) t))
+      on-flat : flat pre post todo ≡ (pre l ++ post l) ++ flat pre post more
       unfolding flat
-      on-flat = ap (flat pre post) (lines-at t i e q z)
+      on-flat = ap (flat pre post) w
 
-      pub lines-place : k < length d
-      lines-place = let p = writing-room (writing-as on-notes (h .table)) in omega arith
+      pub rows-place : k < length d
+      rows-place = let p = writing-room (writing-as on-notes (h .table)) in omega arith
 
-      pub lines-room : Room (pre (part i e t) ++ post (part i e t)) c u n
-      lines-room =
-          room-first (pre (part i e t) ++ post (part i e t)) (flat pre post (linesOf (drop (min (e + 1) (length t)) t)))
-          (room-as on-flat (room-then (h .read) (flat pre post (linesOf (drop i t))) here-room (h .moved)))
+      pub rows-room : Room (pre l ++ post l) c u n
+      rows-room = room-first (pre l ++ post l) (flat pre post more) (room-as on-flat (room-then (h .read) (flat pre post todo) here-room (h .moved)))
 
-      pub lines-on : {b c′ : ℕ} {u′ : List ℕ} {n′ j : ℕ} → b ≡ curBy (pre (part i e t)) c (take n u) → Moved (pre (part i e t) ++ post (part i e t)) c u n c′ u′ n′ →
-          j ≡ min (e + 1) (length t) → LinesInv t d₀ (set d k b) u₀ u′ j (k + 1) c′ n′
-      lines-on {b} {c′} {u′} {n′} {j} x m y =
-          let bs : List Brace = pre (part i e t) ++ post (part i e t) in
-          let rest : List (List ℕ) = linesOf (drop j t) in
-          let ey : linesOf (drop (min (e + 1) (length t)) t) ≡ rest = ap (λ (v : ℕ). linesOf (drop v t)) (sym y) in
-          let notes : notesGo pre post (linesOf (drop i t)) c (take n u) ≡ b ∷ notesGo pre post rest c′ (take n′ u′) =
+      pub rows-on : {b c′ : ℕ} {u′ : List ℕ} {n′ : ℕ} → b ≡ curBy (pre l) c (take n u) → Moved (pre l ++ post l) c u n c′ u′ n′ → RowsInv rows more d₀ (set d k b) u₀ u′ (k + 1) c′ n′
+      rows-on {b} {c′} {u′} {n′} x m =
+          let bs : List Brace = pre l ++ post l in
+          let notes : notesGo pre post todo c (take n u) ≡ b ∷ notesGo pre post more c′ (take n′ u′) =
           on-notes
-          ∙ ap (λ (v : ℕ). v ∷ notesGo pre post (linesOf (drop (min (e + 1) (length t)) t)) (curBy bs c (take n u)) (upsBy bs c (take n u))) (sym x)
-          ∙ ap (λ (ls : List (List ℕ)). b ∷ notesGo pre post ls (curBy bs c (take n u)) (upsBy bs c (take n u))) ey
-          ∙ ap (λ (v : ℕ). b ∷ notesGo pre post rest v (upsBy bs c (take n u))) (sym (m .cur))
-          ∙ ap (λ (v : List ℕ). b ∷ notesGo pre post rest c′ v) (sym (moved-take m)) in
+          ∙ ap (λ (v : ℕ). v ∷ notesGo pre post more (curBy bs c (take n u)) (upsBy bs c (take n u))) (sym x)
+          ∙ ap (λ (v : ℕ). b ∷ notesGo pre post more v (upsBy bs c (take n u))) (sym (m .cur))
+          ∙ ap (λ (v : List ℕ). b ∷ notesGo pre post more c′ v) (sym (moved-take m)) in
           record {
-            i≤ = omega arith;
             table = entry-on b (writing-as notes (h .table));
             room = h .room;
             read = h .read ++ bs;
             moved = moved-then (h .moved) m;
-            left = append-assoc (h .read) bs (flat pre post rest)
-                ∙ ap (λ (v : List Brace). h .read ++ v) (ap (λ (ls : List (List ℕ)). bs ++ flat pre post ls) (sym ey) ∙ sym on-flat)
-                ∙ h .left;
+            left = append-assoc (h .read) bs (flat pre post more) ∙ ap (λ (v : List Brace). h .read ++ v) (sym on-flat) ∙ h .left;
           }
+
+    pub rows-done : todo ≡ [] → Filled d₀ (notesGo pre post rows 0 []) d k
+        × Filled u₀ (upsBy (flat pre post rows) 0 []) u (length (upsBy (flat pre post rows) 0 []))
+    unfolding notesGo flat
+    rows-done z =
+        let a : h .read ≡ flat pre post rows = sym (append-nil (h .read)) ∙ ap (λ (ls : List (List ℕ)). h .read ++ flat pre post ls) (sym z) ∙ h .left in
+        let m = moved-as a (h .moved) in (
+          entry-end (ap (λ (ls : List (List ℕ)). notesGo pre post ls c (take n u)) z) (h .table),
+          subst (λ (v : ℕ). Filled u₀ (upsBy (flat pre post rows) 0 []) u v) (m .filled .place) (m .filled),
+        )
+
+  -- over the lines of a text, from the place i on
+  pub record LinesInv (t d₀ d u₀ u : List ℕ) (i k c n : ℕ) : Type 0 where
+    pub i≤ : i ≤ length t
+    pub rows : RowsInv (linesOf t) (linesOf (drop i t)) d₀ d u₀ u k c n
+
+  pub lines-start : (t d u : List ℕ) → length (linesOf t) ≤ length d → length (upsBy (flat pre post (linesOf t)) 0 []) ≤ length u → length u < 2 ^ 32 →
+      LinesInv t d d u u 0 0 0 0
+  lines-start t d u p q r = record { i≤ = omega arith; rows = rows-start (linesOf t) d u p q r }
+
+  module _ {t d₀ d u₀ u : List ℕ} {i k c n : ℕ} (h : LinesInv t d₀ d u₀ u i k c n) where
+    pub lines-length : length d ≡ length d₀
+    lines-length = rows-length (h .rows)
+
+    pub lines-up : length u ≡ length u₀
+    lines-up = rows-up (h .rows)
+
+    module _ (q : i < length t) (e : ℕ) (z : e ≡ i + upTo 10 (drop i t)) where
+      pub lines-place : k < length d
+      lines-place = rows-place (h .rows) (lines-at t i e q z)
+
+      pub lines-room : Room (pre (part i e t) ++ post (part i e t)) c u n
+      lines-room = rows-room (h .rows) (lines-at t i e q z)
+
+      pub lines-on : {b c′ : ℕ} {u′ : List ℕ} {n′ j : ℕ} → b ≡ curBy (pre (part i e t)) c (take n u) → Moved (pre (part i e t) ++ post (part i e t)) c u n c′ u′ n′ →
+          j ≡ min (e + 1) (length t) → LinesInv t d₀ (set d k b) u₀ u′ j (k + 1) c′ n′
+      lines-on x m y = record { i≤ = omega arith; rows = rows-on (h .rows) (lines-at t i e q z ∙ ap (λ (v : ℕ). part i e t ∷ linesOf (drop v t)) (sym y)) x m }
 
     pub lines-done : length t ≤ i → Filled d₀ (notesGo pre post (linesOf t) 0 []) d k
         × Filled u₀ (upsBy (flat pre post (linesOf t)) 0 []) u (length (upsBy (flat pre post (linesOf t)) 0 []))
-    unfolding notesGo flat
-    lines-done q =
-        let z = lines-end t i q in
-        let a : h .read ≡ flat pre post (linesOf t) = sym (append-nil (h .read)) ∙ ap (λ (ls : List (List ℕ)). h .read ++ flat pre post ls) (sym z) ∙ h .left in
-        let m = moved-as a (h .moved) in (
-          entry-end (ap (λ (ls : List (List ℕ)). notesGo pre post ls c (take n u)) z) (h .table),
-          subst (λ (v : ℕ). Filled u₀ (upsBy (flat pre post (linesOf t)) 0 []) u v) (m .filled .place) (m .filled),
-        )
+    lines-done q = rows-done (h .rows) (lines-end t i q)
 
 -- ---- the end of a trimmed line
 

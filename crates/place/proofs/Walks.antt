@@ -1,6 +1,6 @@
 -- The loops of `walk_line` and `place_lines`. Assumes nothing.
 use Prim.Native.Nat.{ℕ, zero, suc, _+_, _-_, _≤_, _<_, _^_, min}
-use mathlib.Core.Path.{_≡_, refl, sym, ap, _∙_}
+use mathlib.Core.Path.{_≡_, refl, sym, ap, _∙_, subst}
 use mathlib.Core.Bool.{Bool, true, false, cond, _&&_, _||_}
 use mathlib.Core.List.{List, [], _∷_, _++_, append-assoc}
 use native.Mathlib.Omega.{arith}
@@ -15,6 +15,7 @@ use Rattle.lines.proofs.OutLaws.{Writing, writing-start, writing-as, writing-ro
 use Rattle.text.specs.White.{isWhite}
 use Rattle.text.specs.Class.{isQuote}
 use Rattle.text.specs.Trim.{toOf, endWhite}
+use Rattle.text.proofs.Trims.{rest-of}
 use Rattle.lexical.specs.declared.Kind.{Kind}
 use Rattle.lexical.specs.declared.Kind.the-variants.{Kept}
 use Rattle.lexical.specs.declared.Token.{Token}
@@ -22,10 +23,16 @@ use Rattle.lexical.specs.declared.Step.{Step}
 use Rattle.lexical.specs.declared.Tail.{Tail}
 use Rattle.lexical.specs.Lex.{lastOf, token, leaves, lexGo, stripLexical}
 use Rattle.lexical.specs.Inner.Lex.{tokenAt, tailOf, pushed, grown, cleanStep}
+use Rattle.lexical.specs.declared.Open.{Open}
+use Rattle.lexical.specs.declared.Rest.{Rest}
+use Rattle.lexical.specs.declared.Open.the-variants.{Nothing}
+use Rattle.lexical.specs.Joined.{restsIn}
+use Rattle.lexical.specs.Inner.Joined.{restIn, restBy, restsBy}
 use Rattle.lexical.specs.Inner.Plain.{plainLen, lowLast, lowTail}
 use Rattle.lexical.proofs.TokenLaws.{token-kept}
 use Rattle.lexical.proofs.TailLaws.{after-low}
 use Rattle.lexical.proofs.LexLaws.{head-at, LexAt, lex-start, lex-next, lex-on, lex-end}
+use Rattle.lexical.proofs.JoinedLaws.{rests-length, rests-by}
 use Rattle.lexical.proofs.PlainLaws.{plain-take, lex-plain, last-run, low-plain}
 use Rattle.place.specs.Blocks.{Brace, braceOf, cleaned}
 use Rattle.place.specs.Inner.Blocks.{blockIds}
@@ -37,7 +44,7 @@ use Rattle.place.proofs.Blocks.{cleaned-length}
 use Rattle.place.proofs.Fills.{entry-on, entry-end, flags-length, filled-as}
 use Rattle.place.proofs.Parents.{moved-none, moved-then, moved-as, room-as, room-first, room-then, room-length, ids-notes}
 use Rattle.place.proofs.Plains.{moved-run}
-use Rattle.place.proofs.Tables.{LinesInv, lines-start, lines-place, lines-room, lines-on, lines-done}
+use Rattle.place.proofs.Tables.{RowsInv, rows-start, rows-place, rows-room, rows-on, rows-done}
 use Rattle.place.proofs.Starts.{lex-keeps, length-starts, Bytes, bytes-strip, after-by}
 
 braces-append : (a b : List ℕ) → braces (a ++ b) ≡ braces a ++ braces b
@@ -211,54 +218,92 @@ bytes-part t i e p j = go (ltb j (e - i)) refl
     go true h = let q = p (i + j) in let g = getD-take (e - i) (drop i t) j 0 (ltb-true j (e - i) h) in let f = getD-drop i t j 0 in omega arith
     go false h = let l = ltb-false j (e - i) h in let g = List·getD-eq-default (take (e - i) (drop i t)) 0 {n = j} (omega (arith, length-take (e - i) (drop i t))) in omega arith
 
-pub record PlaceInv (t d₀ d s₀ s u₀ u : List ℕ) (i k c n : ℕ) (st : Bool) : Type 0 where
-  pub blocks : LinesInv idsPre idsPost t d₀ d u₀ u i k c n
-  pub starts : Writing 0 (flagsOf (startsGo (cleaned (linesOf t)) true)) (flagsOf (startsGo (cleaned (linesOf (drop i t))) st)) s₀ s k
+rests-long : (joined : Bool) (ls : List (List ℕ)) → length (restsIn joined ls) ≡ length ls
+rests-long true ls = rests-length Nothing ls
+rests-long false ls = refl
 
-pub place-start : (t d s u : List ℕ) → length (linesOf t) ≤ length d → length (linesOf t) ≤ length s → length (idsParents (linesOf t)) ≤ length u → length u < 2 ^ 32 →
-    PlaceInv t d d s s u u 0 0 0 0 true
+pub record PlaceInv (joined : Bool) (t d₀ d s₀ s u₀ u : List ℕ) (i k c n : ℕ) (st : Bool) (above : Open) : Type 0 where
+  pub i≤ : i ≤ length t
+  pub blocks : RowsInv idsPre idsPost (restsIn joined (linesOf t)) (restsBy joined above (linesOf (drop i t))) d₀ d u₀ u k c n
+  pub starts : Writing 0 (flagsOf (startsGo (cleaned (restsIn joined (linesOf t))) true)) (flagsOf (startsGo (cleaned (restsBy joined above (linesOf (drop i t)))) st)) s₀ s k
+
+pub place-start : (joined : Bool) (t d s u : List ℕ) → length (linesOf t) ≤ length d → length (linesOf t) ≤ length s →
+    length (idsParents (restsIn joined (linesOf t))) ≤ length u → length u < 2 ^ 32 → PlaceInv joined t d d s s u u 0 0 0 0 true Nothing
 unfolding idsParents
-place-start t d s u p q r b = record {
-  blocks = lines-start idsPre idsPost t d u p r b;
-  starts = writing-start 0 (flagsOf (startsGo (cleaned (linesOf t)) true)) s
-      (omega (arith, flags-length (startsGo (cleaned (linesOf t)) true), length-starts (cleaned (linesOf t)) true, cleaned-length (linesOf t)));
-}
+place-start joined t d s u p q r b =
+    let ls : List (List ℕ) = restsIn joined (linesOf t) in
+    let same : ls ≡ restsBy joined Nothing (linesOf t) = sym (rests-by joined (linesOf t)) in
+    let long = rests-long joined (linesOf t) in
+    record {
+      i≤ = omega arith;
+      blocks = subst (λ (x : List (List ℕ)). RowsInv idsPre idsPost ls x d d u u 0 0 0) same (rows-start idsPre idsPost ls d u (omega arith) r b);
+      starts = subst (λ (x : List (List ℕ)). Writing 0 (flagsOf (startsGo (cleaned ls) true)) (flagsOf (startsGo (cleaned x) true)) s s 0) same
+          (writing-start 0 (flagsOf (startsGo (cleaned ls) true)) s (omega (arith, flags-length (startsGo (cleaned ls) true), length-starts (cleaned ls) true, cleaned-length ls)));
+    }
 
-module _ {t d₀ d s₀ s u₀ u : List ℕ} {i k c n : ℕ} {st : Bool} (h : PlaceInv t d₀ d s₀ s u₀ u i k c n st) where
+module _ {joined : Bool} {t d₀ d s₀ s u₀ u : List ℕ} {i k c n : ℕ} {st : Bool} {above : Open} (h : PlaceInv joined t d₀ d s₀ s u₀ u i k c n st above) where
   module _ (q : i < length t) (e : ℕ) (z : e ≡ i + upTo 10 (drop i t)) where
-    on-starts : flagsOf (startsGo (cleaned (linesOf (drop i t))) st)
-        ≡ cond st 1 0 ∷ flagsOf (startsGo (cleaned (linesOf (drop (min (e + 1) (length t)) t))) (startsAfter (stripLexical (part i e t)) st))
+    -- the rest of the line, and those of the lines below it
+    todo-is : restsBy joined above (linesOf (drop i t)) ≡ restBy joined above (part i e t) ∷ restsBy joined (restIn joined above (part i e t) .below) (linesOf (drop (min (e + 1) (length t)) t))
+    unfolding restsBy
+    todo-is = ap (restsBy joined above) (lines-at t i e q z)
+
+    on-starts : {l : List ℕ} {more : List (List ℕ)} → restsBy joined above (linesOf (drop i t)) ≡ l ∷ more →
+        flagsOf (startsGo (cleaned (restsBy joined above (linesOf (drop i t)))) st) ≡ cond st 1 0 ∷ flagsOf (startsGo (cleaned more) (startsAfter (stripLexical l) st))
     unfolding startsGo cleaned flagsOf
-    on-starts = ap (λ (ls : List (List ℕ)). flagsOf (startsGo (cleaned ls) st)) (lines-at t i e q z)
+    on-starts w = ap (λ (ls : List (List ℕ)). flagsOf (startsGo (cleaned ls) st)) w
+
+    pub place-block : k < length d
+    place-block = rows-place idsPre idsPost (h .blocks) todo-is
 
     pub place-flag : k < length s
-    place-flag = let p = writing-room (writing-as on-starts (h .starts)) in omega arith
+    place-flag = let p = writing-room (writing-as (on-starts todo-is) (h .starts)) in omega arith
 
-    pub place-room : Room (idsPost (part i e t)) c u n
-    place-room = lines-room idsPre idsPost (h .blocks) q e z
+    -- the rest, as a part of the line
+    abbrev rest : Rest → List ℕ
+    rest r = part (r .from) (length (part i e t)) (part i e t)
 
-    pub place-on : {b f last c′ : ℕ} {u′ : List ℕ} {n′ j : ℕ} {st′ : Bool} → Bytes t → b ≡ c → f ≡ cond st 1 0 →
-        Moved (idsPost (part i e t)) c u n c′ u′ n′ × (last ≡ lastOf (stripLexical (part i e t))) → st′ ≡ startsByLast last st → j ≡ min (e + 1) (length t) →
-        PlaceInv t d₀ (set d k b) s₀ (set s k f) u₀ u′ j (k + 1) c′ n′ st′
+    rest-is : (r : Rest) → rest r ≡ drop (r .from) (part i e t)
+    rest-is r = rest-of (part i e t) (r .from)
+
+    pub place-room : {r : Rest} → r ≡ restIn joined above (part i e t) → Room (idsPost (rest r)) c u n
+    place-room {r} a =
+        room-as (ap (λ (x : Rest). idsPost (drop (x .from) (part i e t))) (sym a) ∙ ap idsPost (sym (rest-is r))) (rows-room idsPre idsPost (h .blocks) todo-is)
+
+    pub place-on : {b f last c′ : ℕ} {r : Rest} {u′ : List ℕ} {n′ j : ℕ} {st′ : Bool} → Bytes t → b ≡ c → f ≡ cond st 1 0 → r ≡ restIn joined above (part i e t) →
+        Moved (idsPost (rest r)) c u n c′ u′ n′ × (last ≡ lastOf (stripLexical (rest r))) → st′ ≡ startsByLast last st →
+        j ≡ min (e + 1) (length t) → PlaceInv joined t d₀ (set d k b) s₀ (set s k f) u₀ u′ j (k + 1) c′ n′ st′ (r .below)
     unfolding curBy
-    place-on {b} {f} {last} {c′} {u′} {n′} {j} {st′} a x y m w v =
-        let g : startsAfter (stripLexical (part i e t)) st ≡ st′ =
-        sym (after-by (stripLexical (part i e t)) st (bytes-strip (part i e t) (bytes-part t i e a))) ∙ ap (λ (l : ℕ). startsByLast l st) (sym (m .1)) ∙ sym w in
+    place-on {b} {f} {last} {c′} {r} {u′} {n′} {j} {st′} a x y z m w v =
+        let line : List ℕ = part i e t in
+        let l : List ℕ = rest r in
+        let more : List (List ℕ) = restsBy joined (r .below) (linesOf (drop j t)) in
+        let todo : restsBy joined above (linesOf (drop i t)) ≡ l ∷ more =
+        todo-is
+        ∙ ap (λ (p : ℕ). restBy joined above line ∷ restsBy joined (restIn joined above line .below) (linesOf (drop p t))) (sym v)
+        ∙ ap (λ (p : Rest). drop (p .from) line ∷ restsBy joined (p .below) (linesOf (drop j t))) (sym z)
+        ∙ ap (λ (p : List ℕ). p ∷ more) (sym (rest-is r)) in
+        let g : startsAfter (stripLexical l) st ≡ st′ =
+        sym (after-by (stripLexical l) st (bytes-strip l (bytes-part line (r .from) (length line) (bytes-part t i e a))))
+        ∙ ap (λ (p : ℕ). startsByLast p st) (sym (m .1))
+        ∙ sym w in
         record {
-          blocks = lines-on idsPre idsPost (h .blocks) q e z x (m .0) v;
-          starts = entry-on f (writing-as (on-starts
-              ∙ ap (λ (r : ℕ). r ∷ flagsOf (startsGo (cleaned (linesOf (drop (min (e + 1) (length t)) t))) (startsAfter (stripLexical (part i e t)) st))) (sym y)
-              ∙ ap (λ (r : Bool). f ∷ flagsOf (startsGo (cleaned (linesOf (drop (min (e + 1) (length t)) t))) r)) g
-              ∙ ap (λ (r : ℕ). f ∷ flagsOf (startsGo (cleaned (linesOf (drop r t))) st′)) (sym v)) (h .starts));
+          i≤ = omega arith;
+          blocks = rows-on idsPre idsPost (h .blocks) todo x (m .0);
+          starts = entry-on f (writing-as (on-starts todo
+              ∙ ap (λ (p : ℕ). p ∷ flagsOf (startsGo (cleaned more) (startsAfter (stripLexical l) st))) (sym y)
+              ∙ ap (λ (p : Bool). f ∷ flagsOf (startsGo (cleaned more) p)) g) (h .starts));
         }
 
-  pub place-done : length t ≤ i → Filled d₀ (blockIds (linesOf t)) d k
-      × (Filled s₀ (flagsOf (startsGo (cleaned (linesOf t)) true)) s k × Filled u₀ (idsParents (linesOf t)) u (length (idsParents (linesOf t))))
-  unfolding idsParents startsGo cleaned flagsOf
+  pub place-done : length t ≤ i → Filled d₀ (blockIds (restsIn joined (linesOf t))) d k
+      × (Filled s₀ (flagsOf (startsGo (cleaned (restsIn joined (linesOf t))) true)) s k
+      × Filled u₀ (idsParents (restsIn joined (linesOf t))) u (length (idsParents (restsIn joined (linesOf t)))))
+  unfolding idsParents startsGo cleaned flagsOf restsBy
   place-done q =
-      let p = lines-done idsPre idsPost (h .blocks) q in (
-        filled-as (ids-notes (linesOf t)) (p .0),
-        (entry-end (ap (λ (ls : List (List ℕ)). flagsOf (startsGo (cleaned ls) st)) (lines-end t i q)) (h .starts), p .1),
+      let z : restsBy joined above (linesOf (drop i t)) ≡ [] = ap (restsBy joined above) (lines-end t i q) in
+      let p = rows-done idsPre idsPost (h .blocks) z in (
+        filled-as (ids-notes (restsIn joined (linesOf t))) (p .0),
+        (entry-end (ap (λ (ls : List (List ℕ)). flagsOf (startsGo (cleaned ls) st)) z) (h .starts), p .1),
       )
 
 -- the tail after plain bytes, by the place where they end

@@ -6,6 +6,7 @@ ghost use Prim.Native.Nat.{_≤_, _<_, _+_, _-_, _^_};
 ghost use lib.ListN.{take, drop, set, length, replicate};
 ghost use Rattle.lines.specs.Lf.{linesOf, endsIn};
 ghost use Rattle.lexical.specs.Lex.{lastOf, leaves, stripLexical};
+ghost use Rattle.lexical.specs.Joined.{restsIn};
 ghost use Rattle.lexical.specs.Inner.Plain.{plainLen};
 ghost use Rattle.place.specs.Region.{isHeader};
 ghost use Rattle.place.specs.Inner.Region.{regionNext, regionLen};
@@ -270,9 +271,10 @@ fn end_mark(line: &[u8], e: usize) -> usize
 }
 
 // For each line its block, whether it may begin a statement, where it ends and whether it opens a region, and the block around each block;
-// returns how many lines there are.
+// returns how many lines there are. Blocks and starts are those of `joined` lines, or of each line by itself.
 pub fn place_lines(
     text: &[u8],
+    joined: bool,
     blocks: &mut [usize],
     starts: &mut [u8],
     up: &mut [u32],
@@ -280,10 +282,10 @@ pub fn place_lines(
 ) -> usize
     requires { ⌜ (length (linesOf (now text)) ≤ length (now blocks))
         × ((length (linesOf (now text)) ≤ length (now starts))
-        × (((length (idsParents (linesOf (now text))) ≤ length (now up)) × (length (now up) < 2 ^ 32)) × (length (linesOf (now text)) ≤ length (now ends)))) ⌝ }
-    ensures tables { λ r. ⌜ (Filled (now (blocks .entry)) (blockIds (linesOf (now (text .entry)))) (now (blocks .exit)) r)
-        × ((Filled (now (starts .entry)) (flagsOf (startsGo (cleaned (linesOf (now (text .entry)))) true)) (now (starts .exit)) r)
-        × (Filled (now (up .entry)) (idsParents (linesOf (now (text .entry)))) (now (up .exit)) (length (idsParents (linesOf (now (text .entry))))))) ⌝ }
+        × (((length (idsParents (restsIn joined (linesOf (now text)))) ≤ length (now up)) × (length (now up) < 2 ^ 32)) × (length (linesOf (now text)) ≤ length (now ends)))) ⌝ }
+    ensures tables { λ r. ⌜ (Filled (now (blocks .entry)) (blockIds (restsIn joined (linesOf (now (text .entry))))) (now (blocks .exit)) r)
+        × ((Filled (now (starts .entry)) (flagsOf (startsGo (cleaned (restsIn joined (linesOf (now (text .entry))))) true)) (now (starts .exit)) r)
+        × (Filled (now (up .entry)) (idsParents (restsIn joined (linesOf (now (text .entry))))) (now (up .exit)) (length (idsParents (restsIn joined (linesOf (now (text .entry)))))))) ⌝ }
     ensures ends { λ r. ⌜ Filled (now (ends .entry)) (endMarks 0 (linesOf (now (text .entry)))) (now (ends .exit)) r ⌝ }
 {
     let mut i = 0;
@@ -291,6 +293,7 @@ pub fn place_lines(
     let mut c = 0;
     let mut n = 0;
     let mut st = true;
+    let mut above = lexical::Open::Nothing;
     while i < text.len() {
         let e = lines::find_byte(text, i, 10);
         let line = &text[i..e];
@@ -298,10 +301,13 @@ pub fn place_lines(
         blocks[k] = wide(c);
         starts[k] = flag(st);
         k += 1;
-        let x = walk_line(line, c, up, n);
+        let rest = lexical::rest_in(joined, line, above);
+        let from = rest.from;
+        let x = walk_line(&line[from..], c, up, n);
         c = x.block;
         n = x.next;
         st = starts_after(x.last, st);
+        above = rest.below;
         i = lines::after(text, e);
     }
     k

@@ -1,4 +1,4 @@
 pub mod UseLaws
 pub mod AssignLaws
-pub mod ByLine
+pub mod Lined
 mod Digits

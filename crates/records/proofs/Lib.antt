@@ -7,3 +7,4 @@ pub mod Of_get
 pub mod Of_put
 pub mod Of_refill
 pub mod Shown
+pub mod Filled

@@ -11,9 +11,7 @@ use lib.ListN.{length, getD, set, drop, length-append, length-drop}
 use Rattle.lines.specs.Lf.{linesOf}
 use Rattle.place.specs.Region.{isHeader}
 use Rattle.place.specs.Inner.Ends.{endMarks}
-use Rattle.place.specs.Inner.Blocks.{blockIds}
 use Rattle.place.specs.Inner.Fill.{Filled}
-use Rattle.place.proofs.Blocks.{length-ids}
 use Rattle.place.proofs.Fills.{filled-length}
 use Rattle.place.proofs.Marks.{marks-length}
 use Rattle.records.specs.declared.LineRec.{LineRec}
@@ -137,9 +135,9 @@ entry-at (l ∷ ls) (b ∷ bs) x i c (suc k) h q =
     ∙ ap (λ (s : ℕ). recAt (startAt i (r ∷ rs) (suc k)) (y / 2) (s + y % 2) (getD bs k 0)) (region-below c r rs k)
 
 -- what `place_lines` leaves
-pub told-ids : (t : List ℕ) {b b′ e e′ : List ℕ} {n : ℕ} → length (linesOf t) ≤ length b → Filled b (blockIds (linesOf t)) b′ n → Filled e (endMarks 0 (linesOf t)) e′ n → Told t e′ b′ n
-told-ids t {b} {b′} {e} h f g =
-    let l = length-ids (linesOf t) in
+pub told-ids : (t : List ℕ) {xs b b′ e e′ : List ℕ} {n : ℕ} → length (linesOf t) ≤ length b → length xs ≡ length (linesOf t) → Filled b xs b′ n → Filled e (endMarks 0 (linesOf t)) e′ n →
+    Told t e′ b′ n
+told-ids t {xs} {b} {b′} {e} h l f g =
     record { count = f .place ∙ l; behind = drop (length (endMarks 0 (linesOf t))) e; marks = g .holds; long = let z = filled-length f (omega arith) in omega arith }
 
 pub told-long : {t es bs : List ℕ} {n : ℕ} → Told t es bs n → (n ≤ length es) × (n ≤ length bs)

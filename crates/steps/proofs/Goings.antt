@@ -13,7 +13,7 @@ use Rattle.origins.specs.Thin.{thenActs}
 use Rattle.origins.proofs.FateLaws.{fates-length, outs-apply, follow-length, under, Under, nil, cons, stands, countUp, stands-all, under-at, fates-under, stands-follow}
 use Rattle.origins.proofs.Thins.{then-length, then-apply}
 use Rattle.reading.specs.Reading.{Reading}
-use Rattle.reading.proofs.ByLine.{ByLine}
+use Rattle.reading.proofs.Lined.{Lined}
 use Rattle.globals.specs.Globals.{globalsActs, removeGlobals}
 use Rattle.globals.proofs.Laws as globals-laws
 use Rattle.temps.specs.Temps.{pruneDeadTempsActs, pruneDeadTemps}
@@ -155,7 +155,7 @@ module _ (R : Reading) where
   phis-lead : Leads (pruneDeadPhis R) (λ ls. fatesOf (pruneDeadPhisActs R ls))
   phis-lead = record { goes = λ ls. rw (sym (rounds-apply R ls)) (goes-acts (pruneDeadPhisActs R ls) ls (rounds-length R ls)) }
 
-module _ {R : Reading} (c : ByLine R) where
+module _ {R : Reading} {shut : List (List ℕ) → Bool} (c : Lined R shut) where
   calls-lead : Leads (rebuildCalls (leavesOf R)) (λ ls. fatesOf (rebuildCallsActs (leavesOf R) ls))
   unfolding rebuildCalls
   calls-lead = record { goes = λ ls. goes-acts (rebuildCallsActs (leavesOf R) ls) ls (calls-length c ls) }

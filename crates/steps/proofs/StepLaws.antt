@@ -1,6 +1,7 @@
 -- Laws of the passes by number: which pass a number is, and what it leaves in the work buffers. Assumes nothing.
 use Prim.Native.Nat.{ℕ, _+_}
 use mathlib.Core.Path.{_≡_, refl, sym, ap, _∙_}
+use mathlib.Core.Bool.{Bool, false}
 use mathlib.Core.List.{List, _++_}
 use native.Mathlib.Omega.{arith}
 use borrow.Author.Tests.{eq-eqb, ne-eqb}
@@ -8,9 +9,10 @@ use lib.ListN.{length, drop, replicate}
 use Rattle.lines.specs.Lf.{linesOf, unlines}
 use Rattle.lines.specs.Inner.Out.{putAt, Wrote}
 use Rattle.lines.specs.Acts.{apply}
+use Rattle.lexical.specs.Joined.{restsIn}
 use Rattle.place.specs.Inner.Fill.{Filled}
 use Rattle.place.specs.Inner.Parents.{idsParents, pathParents}
-use Rattle.reading.specs.Reading.{Reading, plain, strictAt, readingOf}
+use Rattle.reading.specs.Reading.{Reading, strictAt, joinedAt, readingBy, readingOf}
 use Rattle.globals.specs.Globals.{removeGlobals}
 use Rattle.temps.specs.Temps.{pruneDeadTemps}
 use Rattle.temps.specs.Inner.Scratch.{tempScratch}
@@ -59,15 +61,15 @@ module _ (R : Reading) (k : ℕ) (ls : List (List ℕ)) where
   unfolding stepOf
   step-else a b c d e f g = rw (ne-eqb k 0 a, ne-eqb k 1 b, ne-eqb k 2 c, ne-eqb k 3 d, ne-eqb k 4 e, ne-eqb k 5 f, ne-eqb k 6 g)
 
--- ---- two passes that ask no value's purity: every mode cleans lines alike
+-- ---- two passes that ask no value's purity: strict or not, they are the same
 
-pub calls-mode : (mode : ℕ) (ls : List (List ℕ)) → rebuildCalls (leavesOf plain) ls ≡ rebuildCalls (leavesOf (readingOf mode)) ls
+pub calls-mode : (strict joined : Bool) (ls : List (List ℕ)) → rebuildCalls (leavesOf (readingBy false joined)) ls ≡ rebuildCalls (leavesOf (readingBy strict joined)) ls
 unfolding startsBelow blocksBy
-calls-mode mode ls = refl
+calls-mode strict joined ls = refl
 
-pub bind-mode : (mode : ℕ) (ls : List (List ℕ)) → bindDeclarators plain ls ≡ bindDeclarators (readingOf mode) ls
+pub bind-mode : (strict joined : Bool) (ls : List (List ℕ)) → bindDeclarators (readingBy false joined) ls ≡ bindDeclarators (readingBy strict joined) ls
 unfolding bindDeclarators
-bind-mode mode ls = refl
+bind-mode strict joined ls = refl
 
 -- ---- what a pass leaves
 
@@ -114,7 +116,7 @@ Leaves mode k s c d e u f g h v w x p q r c′ d′ e′ u′ f′ g′ h′ v�
     Left mode k s c d e u c′ d′ e′ u′ × Cleared k f g h v w x p q r f′ g′ h′ v′ w′ x′ p′ q′ r′
 
 module _ {mode : ℕ} {s c d e u f g h v w x p q r : List ℕ} where
-  pub leaves-2 : {c′ d′ u′ f′ g′ h′ v′ w′ x′ p′ q′ r′ : List ℕ} → (c′ ≡ leftC mode 2 s c) × ((d′ ≡ leftD mode 2 s d) × (u′ ≡ leftU 2 s u)) →
+  pub leaves-2 : {c′ d′ u′ f′ g′ h′ v′ w′ x′ p′ q′ r′ : List ℕ} → (c′ ≡ leftC mode 2 s c) × ((d′ ≡ leftD mode 2 s d) × (u′ ≡ leftU mode 2 s u)) →
       (f′ ≡ replicate (length f) 0) × ((g′ ≡ replicate (length g) 0) × ((h′ ≡ replicate (length h) 0) × ((v′ ≡ replicate (length v) 0) × ((w′ ≡ replicate (length w) 0) × ((x′ ≡ replicate (length x) 0)
       × ((p′ ≡ replicate (length p) 0) × ((q′ ≡ replicate (length q) 0) × (r′ ≡ replicate (length r) 0)))))))) →
       Leaves mode 2 s c d e u f g h v w x p q r c′ d′ e u′ f′ g′ h′ v′ w′ x′ p′ q′ r′
@@ -134,7 +136,7 @@ module _ {mode : ℕ} {s c d e u f g h v w x p q r : List ℕ} where
     },
   )
 
-  pub leaves-4 : {c′ d′ e′ u′ f′ v′ w′ x′ p′ q′ r′ : List ℕ} → (c′ ≡ leftC mode 4 s c) × ((d′ ≡ leftD mode 4 s d) × ((e′ ≡ leftE mode 4 s e) × (u′ ≡ leftU 4 s u))) →
+  pub leaves-4 : {c′ d′ e′ u′ f′ v′ w′ x′ p′ q′ r′ : List ℕ} → (c′ ≡ leftC mode 4 s c) × ((d′ ≡ leftD mode 4 s d) × ((e′ ≡ leftE mode 4 s e) × (u′ ≡ leftU mode 4 s u))) →
       (f′ ≡ replicate (length f) 0) × ((v′ ≡ replicate (length v) 0) × ((w′ ≡ replicate (length w) 0) × ((x′ ≡ replicate (length x) 0)
       × ((p′ ≡ replicate (length p) 0) × ((q′ ≡ replicate (length q) 0) × (r′ ≡ replicate (length r) 0)))))) →
       Leaves mode 4 s c d e u f g h v w x p q r c′ d′ e′ u′ f′ g h v′ w′ x′ p′ q′ r′
@@ -154,7 +156,7 @@ module _ {mode : ℕ} {s c d e u f g h v w x p q r : List ℕ} where
     },
   )
 
-  pub leaves-6 : {u′ f′ g′ p′ q′ r′ : List ℕ} → u′ ≡ leftU 6 s u →
+  pub leaves-6 : {u′ f′ g′ p′ q′ r′ : List ℕ} → u′ ≡ leftU mode 6 s u →
       (f′ ≡ replicate (length f) 0) × ((g′ ≡ replicate (length g) 0) × ((p′ ≡ replicate (length p) 0) × ((q′ ≡ replicate (length q) 0) × (r′ ≡ replicate (length r) 0)))) →
       Leaves mode 6 s c d e u f g h v w x p q r c d e u′ f′ g′ h v w x p′ q′ r′
   unfolding leftC leftD leftE cleared
@@ -214,7 +216,7 @@ unfolding leftC
 temps-left mode s c p = p
 
 pub once-left : (mode : ℕ) (s : List ℕ) {c d u c′ d′ u′ : List ℕ} {n m l : ℕ} → Wrote c 0 (replicate (length s) 0) c′ n → Wrote d 0 (unlines (apply (onceActs (readingOf mode) (linesOf s)) (linesOf s))) d′ m →
-    Filled u (pathParents (linesOf s)) u′ l → (c′ ≡ leftC mode 2 s c) × ((d′ ≡ leftD mode 2 s d) × (u′ ≡ leftU 2 s u))
+    Filled u (pathParents (linesOf s)) u′ l → (c′ ≡ leftC mode 2 s c) × ((d′ ≡ leftD mode 2 s d) × (u′ ≡ leftU mode 2 s u))
 unfolding leftC leftD leftU
 once-left mode s p q f = (p .holds, (q .holds, filled-at f))
 
@@ -224,10 +226,10 @@ unfolding leftC leftD leftE
 phis-left mode s p q r = (p .holds, (q .holds, r .holds))
 
 pub calls-left : (mode : ℕ) (s : List ℕ) {c d e u c′ d′ e′ u′ : List ℕ} {n m l o : ℕ} → Wrote e 0 (replicate (length (unlines (linesOf s))) 0) e′ l → Wrote c 0 (replicate (length s) 0) c′ n → Wrote d 0 (replicate (length s) 0) d′ m →
-    Filled u (idsParents (linesOf s)) u′ o → (c′ ≡ leftC mode 4 s c) × ((d′ ≡ leftD mode 4 s d) × ((e′ ≡ leftE mode 4 s e) × (u′ ≡ leftU 4 s u)))
+    Filled u (idsParents (restsIn (joinedAt mode) (linesOf s))) u′ o → (c′ ≡ leftC mode 4 s c) × ((d′ ≡ leftD mode 4 s d) × ((e′ ≡ leftE mode 4 s e) × (u′ ≡ leftU mode 4 s u)))
 unfolding leftC leftD leftE leftU
 calls-left mode s z p q f = (p .holds, (q .holds, (z .holds, filled-at f)))
 
-pub bind-left : (s : List ℕ) {u u′ : List ℕ} {n : ℕ} → Filled u (idsParents (linesOf s)) u′ n → u′ ≡ leftU 6 s u
+pub bind-left : (mode : ℕ) (s : List ℕ) {u u′ : List ℕ} {n : ℕ} → Filled u (idsParents (restsIn (joinedAt mode) (linesOf s))) u′ n → u′ ≡ leftU mode 6 s u
 unfolding leftU
-bind-left s f = filled-at f
+bind-left mode s f = filled-at f

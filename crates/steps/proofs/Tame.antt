@@ -14,8 +14,9 @@ use Rattle.lines.proofs.StepLaws.{missingLf, lines-text}
 use Rattle.weight.specs.Inner.Weight.{weight}
 use Rattle.weight.proofs.Weigh.{length-weight}
 use Rattle.place.specs.Inner.Parents.{idsParents, pathParents}
+use Rattle.lexical.specs.Joined.{restsIn}
 use Rattle.place.proofs.Rooms.{ids-parents-text, path-parents-text}
-use Rattle.reading.specs.Reading.{Reading, plain}
+use Rattle.reading.specs.Reading.{Reading, joinedAt, readingOf}
 use Rattle.globals.specs.Globals.{removeGlobals}
 use Rattle.globals.proofs.Laws.{remove-noLf, remove-lines, remove-weight}
 use Rattle.temps.specs.Temps.{pruneDeadTempsActs, pruneDeadTemps}
@@ -32,7 +33,7 @@ use Rattle.calls.specs.LeavesOf.{leavesOf}
 use Rattle.calls.specs.Calls.{rebuildCallsActs, rebuildCalls}
 use Rattle.calls.proofs.Room.{calls-weight, calls-noLf}
 use Rattle.bind.specs.Bind.{bindDeclarators}
-use Rattle.reading.proofs.ByLine.{ByLine, plain-by-line}
+use Rattle.reading.proofs.Lined.{Lined, mode-lined}
 use Rattle.bind.proofs.Passes as bind-laws
 use Rattle.decls.specs.Decls.{pruneDecls}
 use Rattle.decls.proofs.Keeps.{keeps-noLf}
@@ -95,11 +96,11 @@ calls-count R ls = apply-length (rebuildCallsActs (leavesOf R) ls) ls
 pub tame-calls : (R : Reading) → Tame (rebuildCalls (leavesOf R))
 tame-calls R = record { keeps = calls-noLf R; weighs = λ H ls. calls-weight H R ls; counts = calls-count R }
 
--- where lines are cleaned one by one, as in the plain reading
-pub tame-bind : {R : Reading} → ByLine R → Tame (bindDeclarators R)
+-- where as many lines are cleaned as there are
+pub tame-bind : {R : Reading} {shut : List (List ℕ) → Bool} → Lined R shut → Tame (bindDeclarators R)
 tame-bind {R} c = record { keeps = bind-laws.keeps-noLf c; weighs = bind-laws.bind-weight c; counts = bind-laws.bind-lines R }
 
-pub tame-step : {R : Reading} → ByLine R → (k : ℕ) → Tame (stepOf R k)
+pub tame-step : {R : Reading} {shut : List (List ℕ) → Bool} → Lined R shut → (k : ℕ) → Tame (stepOf R k)
 unfolding stepOf
 tame-step {R} c k =
     tame-if (eqb k 0) tame-removal
@@ -171,29 +172,29 @@ phis-room R {s = s} r b =
       ),
     )
 
-pub calls-room : {L : Limits} {s : List ℕ} {owner blocks starts up stack cur next out ends : ℕ} → Bounded L s →
+pub calls-room : (mode : ℕ) {L : Limits} {s : List ℕ} {owner blocks starts up stack cur next out ends : ℕ} → Bounded L s →
     (byteSize L ≤ cur) × ((byteSize L ≤ next) × ((byteSize L ≤ stack) × (byteSize L ≤ out))) → (blockSize L ≤ up) × (up < 2 ^ 32) →
     (L .lines ≤ starts) × ((L .lines ≤ owner) × ((L .lines ≤ ends) × (L .lines ≤ blocks))) →
     ((length (linesOf s) ≤ owner) × ((length (linesOf s) ≤ blocks) × (length (linesOf s) ≤ starts)))
-    × (((length (idsParents (linesOf s)) ≤ up) × (up < 2 ^ 32))
+    × (((length (idsParents (restsIn (joinedAt mode) (linesOf s))) ≤ up) × (up < 2 ^ 32))
     × (((length (unlines (linesOf s)) ≤ stack) × ((length s ≤ cur) × (length s ≤ next)))
-    × ((length (unlines (rebuildCalls (leavesOf plain) (linesOf s))) ≤ out) × (length (linesOf s) ≤ ends))))
-calls-room {s = s} r b u l = (
+    × ((length (unlines (rebuildCalls (leavesOf (readingOf mode)) (linesOf s))) ≤ out) × (length (linesOf s) ≤ ends))))
+calls-room mode {s = s} r b u l = (
   (omega (arith, r .lines, l .1 .0), (omega (arith, r .lines, l .1 .1 .1), omega (arith, r .lines, l .0))),
   (
-    (omega (arith, ids-parents-text s, r .braces, u .0), u .1),
+    (omega (arith, ids-parents-text (joinedAt mode) s, r .braces, u .0), u .1),
     (
       (omega (arith, room-lines r, b .1 .1 .0), (omega (arith, room-length r, b .0), omega (arith, room-length r, b .1 .0))),
-      (omega (arith, room-fits (tame-calls plain) r, b .1 .1 .1), omega (arith, r .lines, l .1 .1 .0)),
+      (omega (arith, room-fits (tame-calls (readingOf mode)) r, b .1 .1 .1), omega (arith, r .lines, l .1 .1 .0)),
     ),
   ),
 )
 
-pub bind-room : {L : Limits} {s : List ℕ} {blocks starts up marks out ends : ℕ} → Bounded L s → byteSize L ≤ out → (blockSize L ≤ up) × (up < 2 ^ 32) →
+pub bind-room : (mode : ℕ) {L : Limits} {s : List ℕ} {blocks starts up marks out ends : ℕ} → Bounded L s → byteSize L ≤ out → (blockSize L ≤ up) × (up < 2 ^ 32) →
     (L .lines ≤ starts) × ((L .lines ≤ marks) × ((L .lines ≤ blocks) × (L .lines ≤ ends))) →
-    ((length (linesOf s) ≤ blocks) × ((length (linesOf s) ≤ starts) × ((length (idsParents (linesOf s)) ≤ up) × (up < 2 ^ 32))))
-    × ((length (linesOf s) ≤ marks) × ((length (unlines (bindDeclarators plain (linesOf s))) ≤ out) × (length (linesOf s) ≤ ends)))
-bind-room {s = s} r b u l = (
-  (omega (arith, r .lines, l .1 .1 .0), (omega (arith, r .lines, l .0), (omega (arith, ids-parents-text s, r .braces, u .0), u .1))),
-  (omega (arith, r .lines, l .1 .0), (omega (arith, room-fits (tame-bind plain-by-line) r, b), omega (arith, r .lines, l .1 .1 .1))),
+    ((length (linesOf s) ≤ blocks) × ((length (linesOf s) ≤ starts) × ((length (idsParents (restsIn (joinedAt mode) (linesOf s))) ≤ up) × (up < 2 ^ 32))))
+    × ((length (linesOf s) ≤ marks) × ((length (unlines (bindDeclarators (readingOf mode) (linesOf s))) ≤ out) × (length (linesOf s) ≤ ends)))
+bind-room mode {s = s} r b u l = (
+  (omega (arith, r .lines, l .1 .1 .0), (omega (arith, r .lines, l .0), (omega (arith, ids-parents-text (joinedAt mode) s, r .braces, u .0), u .1))),
+  (omega (arith, r .lines, l .1 .0), (omega (arith, room-fits (tame-bind (mode-lined mode)) r, b), omega (arith, r .lines, l .1 .1 .1))),
 )

@@ -25,7 +25,7 @@ use Rattle.place.specs.Loops.{insideLoop}
 use Rattle.place.specs.Paths.{blockPaths, tops}
 use Rattle.place.proofs.Fills.{filled-take}
 use Rattle.parse.specs.Parse.{isDecl, bodyOf}
-use Rattle.reading.specs.Reading.{Reading, plain, readingOf, pureIn}
+use Rattle.reading.specs.Reading.{Reading, readingOf, pureIn}
 use Rattle.reading.specs.Assign.{isAssign, leftOf, rightOf}
 use Rattle.globals.specs.Globals.{isGlobals, globalsActs}
 use Rattle.temps.specs.Temps.{deadTemp, tempAct, tempActs, pruneDeadTempsActs}
@@ -39,7 +39,7 @@ use Rattle.once.specs.Inner.Tables.{onceMarks}
 use Rattle.once.specs.Inner.Moves.{moveMarks}
 use Rattle.once.proofs.Fills.{marks-of, marks-length}
 use Rattle.once.proofs.Moves as once-laws
-use Rattle.calls.specs.LeavesOf.{leavesOf, startsBelow, blocksBy}
+use Rattle.calls.specs.LeavesOf.{leavesOf}
 use Rattle.calls.specs.Calls.{rebuildCallsActs}
 use Rattle.calls.specs.Inner.Tables.{ownersOf}
 use Rattle.calls.proofs.Moves.{calls-moves, calls-down}
@@ -167,15 +167,6 @@ stays-moves (suc n) = ap (λ (l : List ℕ). 0 ∷ l) (stays-moves n)
 pub stay-noted : (n : ℕ) {d d′ : List ℕ} {r : ℕ} → Wrote d 0 (replicate n 0) d′ r → Wrote d 0 (movesOf (replicate n keep)) d′ n
 stay-noted n w = stay-moves (replicate n keep) n (length-replicate {A = Act} n keep) (stays-many n) w
 
--- what every mode's acts are
-pub calls-acts : (mode : ℕ) (ls : List (List ℕ)) → rebuildCallsActs (leavesOf plain) ls ≡ rebuildCallsActs (leavesOf (readingOf mode)) ls
-unfolding startsBelow blocksBy
-calls-acts mode ls = refl
-
-pub bind-acts : (mode : ℕ) (ls : List (List ℕ)) → bindDeclaratorsActs plain ls ≡ bindDeclaratorsActs (readingOf mode) ls
-unfolding bindDeclaratorsActs
-bind-acts mode ls = refl
-
 -- ---- raw moves after the moves of a pass, which stand at the front of a table
 
 -- moves of lines that all stand
@@ -220,17 +211,17 @@ module _ (R : Reading) (k : ℕ) (ls : List (List ℕ)) (t : List ℕ) where
   pub few-trail : {n : ℕ} {m₀ m t′ : List ℕ} → (k ≡ 2 → ⊥) → (k ≡ 4 → ⊥) → (k ≡ 6 → ⊥) → n ≡ length ls → Wrote m₀ 0 (movesOf (fewActs R k ls)) m (length ls) → t′ ≡ thinned t (take n m) → t′ ≡ trailed R k ls t
   few-trail {n} {m₀} {m} n2 n4 n6 e w z = z ∙ ap (thinned t) (ap (λ (j : ℕ). take j m) e ∙ wrote-part w) ∙ trail-few n2 n4 n6
 
-pub calls-trail : (mode : ℕ) (ls : List (List ℕ)) (t : List ℕ) {n : ℕ} {m₀ m t′ : List ℕ} → n ≡ length ls → Filled m₀ (ownersOf (rebuildCallsActs (leavesOf plain) ls)) m (length ls) →
+pub calls-trail : (mode : ℕ) (ls : List (List ℕ)) (t : List ℕ) {n : ℕ} {m₀ m t′ : List ℕ} → n ≡ length ls → Filled m₀ (ownersOf (rebuildCallsActs (leavesOf (readingOf mode)) ls)) m (length ls) →
     t′ ≡ thinned t (take n m) → t′ ≡ thinned t (movesOf (rebuildCallsActs (leavesOf (readingOf mode)) ls))
 calls-trail mode ls t {n} {m₀} {m} e f z =
-    z ∙ ap (thinned t) (ap (λ (j : ℕ). take j m) e ∙ filled-take f ∙ sym (calls-moves (leavesOf plain) ls) ∙ ap movesOf (calls-acts mode ls))
+    z ∙ ap (thinned t) (ap (λ (j : ℕ). take j m) e ∙ filled-take f ∙ sym (calls-moves (leavesOf (readingOf mode)) ls))
 
-pub bind-trail : (mode : ℕ) (ls : List (List ℕ)) (t : List ℕ) {n r : ℕ} {m₀ m b b′ t′ : List ℕ} → n ≡ length ls → Filled m₀ (bindNotes plain ls) m (length ls) → Wrote b 0 (noteMoves (take n m)) b′ r →
+pub bind-trail : (mode : ℕ) (ls : List (List ℕ)) (t : List ℕ) {n r : ℕ} {m₀ m b b′ t′ : List ℕ} → n ≡ length ls → Filled m₀ (bindNotes (readingOf mode) ls) m (length ls) → Wrote b 0 (noteMoves (take n m)) b′ r →
     t′ ≡ thinned t (take n b′) → t′ ≡ thinned t (movesOf (bindDeclaratorsActs (readingOf mode) ls))
 bind-trail mode ls t {n} {r} {m₀} {m} {b} {b′} e f w z =
-    let q : take n m ≡ bindNotes plain ls = ap (λ (j : ℕ). take j m) e ∙ filled-take f in
+    let q : take n m ≡ bindNotes (readingOf mode) ls = ap (λ (j : ℕ). take j m) e ∙ filled-take f in
     let c : r ≡ n = omega (arith, w .place, bind-laws.moves-many (take n m), ap length q, f .place, e) in
-    z ∙ ap (thinned t) (ap (λ (j : ℕ). take j b′) (sym c) ∙ wrote-part w ∙ ap noteMoves q ∙ sym (bind-laws.bind-moves plain ls) ∙ ap movesOf (bind-acts mode ls))
+    z ∙ ap (thinned t) (ap (λ (j : ℕ). take j b′) (sym c) ∙ wrote-part w ∙ ap noteMoves q ∙ sym (bind-laws.bind-moves (readingOf mode) ls))
 
 -- ---- where raw moves lead after acts, and how many lines stand then
 

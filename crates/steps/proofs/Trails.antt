@@ -14,7 +14,7 @@ use Rattle.origins.proofs.CodeLaws.{sound}
 use Rattle.trails.specs.Inner.Trails.{thinned}
 use Rattle.trails.proofs.TrailLaws.{thinned-length, thinned-stay}
 use Rattle.reading.specs.Reading.{Reading}
-use Rattle.reading.proofs.ByLine.{ByLine}
+use Rattle.reading.proofs.Lined.{Lined}
 use Rattle.globals.specs.Globals.{globalsActs, removeGlobals}
 use Rattle.globals.proofs.Laws as globals-laws
 use Rattle.temps.specs.Temps.{pruneDeadTempsActs, pruneDeadTemps}
@@ -112,7 +112,7 @@ module _ (R : Reading) where
     led = λ ls t c h. rw (sym (phis-apply R ls)) (led-acts (pruneDeadPhisActs R ls) ls t (plain-down (pruneDeadPhisActs R ls) (phis-plain R ls)) (phis-length R ls) c h);
   }
 
-module _ {R : Reading} (b : ByLine R) where
+module _ {R : Reading} {shut : List (List ℕ) → Bool} (b : Lined R shut) where
   calls-trails : Trails (rebuildCalls (leavesOf R)) (λ ls. fatesOf (rebuildCallsActs (leavesOf R) ls)) (λ ls t. thinned t (movesOf (rebuildCallsActs (leavesOf R) ls)))
   unfolding rebuildCalls
   calls-trails = record { led = λ ls t c h. led-acts (rebuildCallsActs (leavesOf R) ls) ls t (calls-down (leavesOf R) ls) (calls-length b ls) c h }

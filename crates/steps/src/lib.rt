@@ -84,7 +84,7 @@ fn once_step(
 ) -> usize
     requires { ⌜ (rows ≡ length (linesOf (now src))) × (Bounded (m .limits) (now src) × (((byteSize (m .limits) ≤ length (now scratch)) × ((byteSize (m .limits) ≤ length (now mid)) × (byteSize (m .limits) ≤ length (now dst)))) × (((blockSize (m .limits) ≤ length (now up)) × (length (now up) < 2 ^ 32)) × ((((m .limits .lines) ≤ length (now loops)) × (((m .limits .lines) ≤ length (now marks)) × (((m .limits .lines) ≤ length (now paths)) × ((m .limits .lines) ≤ length (now moves))))) × ((length (now far) ≡ length (now near)) × (length (now far) ≡ length (now stores))))))) ⌝ }
     ensures answer { λ r. ⌜ Wrote (now (dst .entry)) 0 (unlines (optimizeOnce (readingOf (m .mode .0)) (linesOf (now (src .entry))))) (now (dst .exit)) r ⌝ }
-    ensures memory { λ _. ⌜ (now (scratch .exit) ≡ leftC (m .mode .0) 2 (now (src .entry)) (now (scratch .entry))) × ((now (mid .exit) ≡ leftD (m .mode .0) 2 (now (src .entry)) (now (mid .entry))) × (now (up .exit) ≡ leftU 2 (now (src .entry)) (now (up .entry)))) ⌝ }
+    ensures memory { λ _. ⌜ (now (scratch .exit) ≡ leftC (m .mode .0) 2 (now (src .entry)) (now (scratch .entry))) × ((now (mid .exit) ≡ leftD (m .mode .0) 2 (now (src .entry)) (now (mid .entry))) × (now (up .exit) ≡ leftU (m .mode .0) 2 (now (src .entry)) (now (up .entry)))) ⌝ }
     ensures tables { λ _. ⌜ (now (loops .exit) ≡ replicate (length (now (loops .entry))) 0) × ((now (marks .exit) ≡ replicate (length (now (marks .entry))) 0) × ((now (notes .exit) ≡ replicate (length (now (notes .entry))) 0) × ((now (near .exit) ≡ replicate (length (now (near .entry))) 0) × ((now (far .exit) ≡ replicate (length (now (far .entry))) 0) × ((now (stores .exit) ≡ replicate (length (now (stores .entry))) 0) × ((now (paths .exit) ≡ replicate (length (now (paths .entry))) 0) × ((now (ends .exit) ≡ replicate (length (now (ends .entry))) 0) × ((now (seen .exit) ≡ replicate (length (now (seen .entry))) 0) × (now (moves .exit) ≡ replicate (length (now (moves .entry))) 0))))))))) ⌝ }
     ensures origins { λ _. ⌜ now (table .exit) ≡ thinned (thinned (now (table .entry)) (movesOf (onceActs (readingOf (m .mode .0)) (linesOf (now (src .entry)))))) (movesOf (pruneDeclsActs (apply (onceActs (readingOf (m .mode .0)) (linesOf (now (src .entry)))) (linesOf (now (src .entry)))))) ⌝ }
 {
@@ -137,11 +137,12 @@ fn calls_step(
 ) -> usize
     requires { ⌜ (rows ≡ length (linesOf (now src))) × (Bounded (m .limits) (now src) × (((byteSize (m .limits) ≤ length (now cur)) × ((byteSize (m .limits) ≤ length (now next)) × ((byteSize (m .limits) ≤ length (now stack)) × (byteSize (m .limits) ≤ length (now dst))))) × (((blockSize (m .limits) ≤ length (now up)) × (length (now up) < 2 ^ 32)) × (((m .limits .lines) ≤ length (now starts)) × (((m .limits .lines) ≤ length (now owner)) × (((m .limits .lines) ≤ length (now ends)) × ((m .limits .lines) ≤ length (now blocks)))))))) ⌝ }
     ensures answer { λ r. ⌜ Wrote (now (dst .entry)) 0 (unlines (rebuildCalls (leavesOf (readingOf (m .mode .0))) (linesOf (now (src .entry))))) (now (dst .exit)) r ⌝ }
-    ensures memory { λ _. ⌜ (now (cur .exit) ≡ leftC (m .mode .0) 4 (now (src .entry)) (now (cur .entry))) × ((now (next .exit) ≡ leftD (m .mode .0) 4 (now (src .entry)) (now (next .entry))) × ((now (stack .exit) ≡ leftE (m .mode .0) 4 (now (src .entry)) (now (stack .entry))) × (now (up .exit) ≡ leftU 4 (now (src .entry)) (now (up .entry))))) ⌝ }
+    ensures memory { λ _. ⌜ (now (cur .exit) ≡ leftC (m .mode .0) 4 (now (src .entry)) (now (cur .entry))) × ((now (next .exit) ≡ leftD (m .mode .0) 4 (now (src .entry)) (now (next .entry))) × ((now (stack .exit) ≡ leftE (m .mode .0) 4 (now (src .entry)) (now (stack .entry))) × (now (up .exit) ≡ leftU (m .mode .0) 4 (now (src .entry)) (now (up .entry))))) ⌝ }
     ensures tables { λ _. ⌜ (now (starts .exit) ≡ replicate (length (now (starts .entry))) 0) × ((now (near .exit) ≡ replicate (length (now (near .entry))) 0) × ((now (stores .exit) ≡ replicate (length (now (stores .entry))) 0) × ((now (notes .exit) ≡ replicate (length (now (notes .entry))) 0) × ((now (owner .exit) ≡ replicate (length (now (owner .entry))) 0) × ((now (ends .exit) ≡ replicate (length (now (ends .entry))) 0) × (now (blocks .exit) ≡ replicate (length (now (blocks .entry))) 0)))))) ⌝ }
     ensures origins { λ _. ⌜ now (table .exit) ≡ thinned (now (table .entry)) (movesOf (rebuildCallsActs (leavesOf (readingOf (m .mode .0))) (linesOf (now (src .entry))))) ⌝ }
 {
     let n = calls::rebuild_calls(
+        m.mode,
         src,
         own,
         ends,
@@ -182,11 +183,23 @@ fn bind_step(
 ) -> usize
     requires { ⌜ (rows ≡ length (linesOf (now src))) × (Bounded (m .limits) (now src) × ((byteSize (m .limits) ≤ length (now dst)) × (((blockSize (m .limits) ≤ length (now up)) × (length (now up) < 2 ^ 32)) × (((m .limits .lines) ≤ length (now starts)) × (((m .limits .lines) ≤ length (now marks)) × (((m .limits .lines) ≤ length (now blocks)) × ((m .limits .lines) ≤ length (now ends)))))))) ⌝ }
     ensures answer { λ r. ⌜ Wrote (now (dst .entry)) 0 (unlines (bindDeclarators (readingOf (m .mode .0)) (linesOf (now (src .entry))))) (now (dst .exit)) r ⌝ }
-    ensures memory { λ _. ⌜ now (up .exit) ≡ leftU 6 (now (src .entry)) (now (up .entry)) ⌝ }
+    ensures memory { λ _. ⌜ now (up .exit) ≡ leftU (m .mode .0) 6 (now (src .entry)) (now (up .entry)) ⌝ }
     ensures tables { λ _. ⌜ (now (starts .exit) ≡ replicate (length (now (starts .entry))) 0) × ((now (marks .exit) ≡ replicate (length (now (marks .entry))) 0) × ((now (blocks .exit) ≡ replicate (length (now (blocks .entry))) 0) × ((now (ends .exit) ≡ replicate (length (now (ends .entry))) 0) × ((now (seen .exit) ≡ replicate (length (now (seen .entry))) 0) × (now (first .exit) ≡ replicate (length (now (first .entry))) 0))))) ⌝ }
     ensures origins { λ _. ⌜ now (table .exit) ≡ thinned (now (table .entry)) (movesOf (bindDeclaratorsActs (readingOf (m .mode .0)) (linesOf (now (src .entry))))) ⌝ }
 {
-    let n = bind::bind_declarators(src, own, ends, blocks, starts, up, marks, seen, first, dst);
+    let n = bind::bind_declarators(
+        m.mode,
+        src,
+        own,
+        ends,
+        blocks,
+        starts,
+        up,
+        marks,
+        seen,
+        first,
+        dst,
+    );
     bind::moves_of(&marks[..rows], blocks);
     trace(rows, blocks, table);
     lines::wipe(starts, starts.len());

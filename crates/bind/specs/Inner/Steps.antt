@@ -143,6 +143,13 @@ noteMoves (n ∷ ns) = cond (eqb n 2) farMove 0 ∷ noteMoves ns
 
 -- ---- the tables
 
+-- lines by tables that have an entry for each: its block, and 1 where it may start a statement
+unfoldable pub tabled : List (List ℕ) → List ℕ → List ℕ → List BlockLine
+tabled [] bs ss = []
+tabled (l ∷ ls) [] ss = []
+tabled (l ∷ ls) (b ∷ bs) [] = []
+tabled (l ∷ ls) (b ∷ bs) (s ∷ ss) = record { line = l; block = b; starts = eqb s 1 } ∷ tabled ls bs ss
+
 -- the entries of the two tables are those of the lines
 pub data Rows : List BlockLine → List ℕ → List ℕ → Type 0 where
   none : {bs ss : List ℕ} → Rows [] bs ss

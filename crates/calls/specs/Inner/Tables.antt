@@ -2,19 +2,16 @@
 use Prim.Native.Nat.{ℕ, zero, suc, _+_, _-_, _≤_, _<_, min}
 use Prim.Native.Char.{code}
 use mathlib.Core.Path.{_≡_}
-use mathlib.Core.Bool.{Bool, true}
+use mathlib.Core.Bool.{Bool}
 use mathlib.Core.List.{List, [], _∷_}
+use lib.Dec.{eqb}
 use lib.ListN.{length, take, drop, getD}
 use Rattle.lines.specs.Lf.{part, upTo, linesOf, unlines}
 use Rattle.lines.specs.Acts.{Act, keep, become, into, gone, act, apply}
 use Rattle.place.specs.Region.{isHeader}
-use Rattle.place.specs.Blocks.{cleaned}
-use Rattle.place.specs.Inner.Blocks.{blockIds}
-use Rattle.place.specs.Starts.{startsGo}
-use Rattle.place.specs.Inner.Fill.{Filled, flagsOf}
-use Rattle.reading.specs.Reading.{plain}
+use Rattle.place.specs.Inner.Fill.{Filled}
 use Rattle.calls.specs.Leaves.{Leaves}
-use Rattle.calls.specs.LeavesOf.{blocksBy, leavesOf}
+use Rattle.calls.specs.LeavesOf.{leavesBy}
 use Rattle.calls.specs.Calls.{Item, Row, Walked, linesOn, climb, itemsOf, actsUp, readLater, walk, turn, rebuildCallsActs, rebuildCalls}
 
 -- how far below a line its owner stands, or 0 where it has none
@@ -42,17 +39,21 @@ module _ (L : Leaves) where
   walkFrom [] rows = record { act = keep; rows = rows }
   walkFrom (x ∷ xs) rows = walk L (x .block) (λ v. readLater L v (linesOn xs)) climb rows 1 (L .header (x .line)) (x .line) [] []
 
--- the lines of a text with their blocks
-unfoldable pub itemsIn : List ℕ → List Item
-itemsIn t = itemsOf (linesOf t) (blocksBy plain (linesOf t))
+-- the leaves by tables that have an entry for each line: its block, and 1 where it starts a statement
+abbrev pub tabled : List ℕ → List ℕ → Leaves
+tabled bs fs = leavesBy (λ (above : List (List ℕ)). eqb (getD fs (length above) 0) 1) (λ (ls : List (List ℕ)). bs)
 
--- the rows above line n of a text, as they are when the pass comes to it
-unfoldable pub rowsAt : List ℕ → ℕ → List Row
-rowsAt t n = rowsTo (leavesOf plain) n (itemsIn t) []
+-- the lines of a text with their blocks
+unfoldable pub itemsIn : List ℕ → List ℕ → List Item
+itemsIn t bs = itemsOf (linesOf t) bs
+
+-- the rows above line n of a text, by tables, as they are when the pass comes to it
+unfoldable pub rowsAt : List ℕ → List ℕ → List ℕ → ℕ → List Row
+rowsAt t bs fs n = rowsTo (tabled bs fs) n (itemsIn t bs) []
 
 -- the walk up from line n
-unfoldable pub walkAt : List ℕ → ℕ → Walked
-walkAt t n = walkFrom (leavesOf plain) (drop n (itemsIn t)) (rowsAt t n)
+unfoldable pub walkAt : List ℕ → List ℕ → List ℕ → ℕ → Walked
+walkAt t bs fs n = walkFrom (tabled bs fs) (drop n (itemsIn t bs)) (rowsAt t bs fs n)
 
 -- line n
 abbrev pub lineAt : List ℕ → ℕ → List ℕ
@@ -72,12 +73,10 @@ pub record Stands (t : List ℕ) (n i f : ℕ) : Type 0 where
   pub below : linesOf (drop f t) ≡ drop (suc n) (linesOf t)
   pub from : i ≤ length t
 
--- the tables of blocks and of starts of statements are those of t
-pub record Placed (t blocks starts : List ℕ) : Type 0 where
-  pub blocks-are : take (length (linesOf t)) blocks ≡ blockIds (linesOf t)
-  pub starts-are : take (length (linesOf t)) starts ≡ flagsOf (startsGo (cleaned (linesOf t)) true)
-  pub blocks-many : length (linesOf t) ≤ length blocks
-  pub starts-many : length (linesOf t) ≤ length starts
+-- the tables of blocks and of starts of statements have an entry for each line of t
+pub record Placed (t bs fs : List ℕ) : Type 0 where
+  pub blocks-many : length (linesOf t) ≤ length bs
+  pub starts-many : length (linesOf t) ≤ length fs
 
 -- at the foot of a walk from line n: the line stands at the front of cur
 pub record Foot (t : List ℕ) (n : ℕ) (over : Bool) (cur : List ℕ) (size : ℕ) : Type 0 where
@@ -86,10 +85,10 @@ pub record Foot (t : List ℕ) (n : ℕ) (over : Bool) (cur : List ℕ) (size : 
   pub sized : size ≡ length (lineAt t n)
 
 -- at its end: below `height` the stack and the table of owners keep the rows that it leaves, and what the line becomes stands at the front of cur
-pub record Peaked (t : List ℕ) (n : ℕ) (owner owner′ stack cur : List ℕ) (height size most : ℕ) : Type 0 where
-  pub keeps : Keeps t n (walkAt t n .rows) owner′ stack height
+pub record Peaked (t bs fs : List ℕ) (n : ℕ) (owner owner′ stack cur : List ℕ) (height size most : ℕ) : Type 0 where
+  pub keeps : Keeps t n (walkAt t bs fs n .rows) owner′ stack height
   pub beyond : drop n owner′ ≡ drop n owner
-  pub line : act (walkAt t n .act) (lineAt t n) ≡ take size cur ∷ []
+  pub line : act (walkAt t bs fs n .act) (lineAt t n) ≡ take size cur ∷ []
   pub room : height + size ≤ most
   pub sized : size ≤ length cur
 
@@ -101,10 +100,10 @@ pub record LineAt (t : List ℕ) (n i e : ℕ) : Type 0 where
   pub ends : e ≡ i + upTo (code "\n") (drop i t)
 
 -- all is ready for line n, which stands from i up to e: the tables, and room in the buffers
-pub record Ready (t : List ℕ) (n i e : ℕ) (blocks starts owner stack : List ℕ) (o : ℕ) (cur next : List ℕ) : Type 0 where
-  pub keeps : Keeps t n (rowsAt t n) owner stack o
+pub record Ready (t : List ℕ) (n i e : ℕ) (bs fs owner stack : List ℕ) (o : ℕ) (cur next : List ℕ) : Type 0 where
+  pub keeps : Keeps t n (rowsAt t bs fs n) owner stack o
   pub spot : LineAt t n i e
-  pub placed : Placed t blocks starts
+  pub placed : Placed t bs fs
   pub many : n < length owner
   pub low : o ≤ i
   pub stack-room : length (unlines (linesOf t)) ≤ length stack
@@ -112,13 +111,13 @@ pub record Ready (t : List ℕ) (n i e : ℕ) (blocks starts owner stack : List 
   pub next-room : length t ≤ length next
 
 -- after line n: the tables keep one row more, and the stack has grown by no more than the line and its LF
-pub record TurnedLine (t : List ℕ) (n : ℕ) (owner owner′ stack : List ℕ) (o r : ℕ) : Type 0 where
-  pub keeps : Keeps t (suc n) (rowsAt t (suc n)) owner′ stack r
+pub record TurnedLine (t bs fs : List ℕ) (n : ℕ) (owner owner′ stack : List ℕ) (o r : ℕ) : Type 0 where
+  pub keeps : Keeps t (suc n) (rowsAt t bs fs (suc n)) owner′ stack r
   pub beyond : drop (suc n) owner′ ≡ drop (suc n) owner
   pub room : r ≤ o + length (lineAt t n) + 1
 
--- after all lines: below r the stack has the bytes of the lines that the pass makes, and the table has the owner of each line
-pub record Rebuilt (t owner owner′ stack : List ℕ) (r : ℕ) : Type 0 where
-  pub owners : Filled owner (ownersOf (rebuildCallsActs (leavesOf plain) (linesOf t))) owner′ (length (linesOf t))
-  pub lines : take r stack ≡ unlines (rebuildCalls (leavesOf plain) (linesOf t))
+-- after all lines: below r the stack has the bytes of the lines that the pass makes by the tables, and the table has the owner of each line
+pub record Rebuilt (t bs fs owner owner′ stack : List ℕ) (r : ℕ) : Type 0 where
+  pub owners : Filled owner (ownersOf (rebuildCallsActs (tabled bs fs) (linesOf t))) owner′ (length (linesOf t))
+  pub lines : take r stack ≡ unlines (rebuildCalls (tabled bs fs) (linesOf t))
   pub fits : r ≤ length stack

@@ -2,7 +2,7 @@
 use borrow.Author.Needs.{needs}
 use Rattle.reading.specs.Reading.{readingOf}
 use Rattle.opt.proofs.EntryLaws.{result-whole, origins-whole}
-use Rattle.reading.proofs.ByLine.{mode-by-line}
+use Rattle.reading.proofs.Lined.{mode-lined}
 use Rattle.opt.proofs.optimize.Statement.{statement}
 use Rattle.opt.proofs.optimize.Tie as tie
 
@@ -34,7 +34,7 @@ same-length-8 : tie.Need-same-length-8
 same-length-8 c = c .before .before .before .before .before .before .before .before .before .before .before .before .before .before .before .before .tidy-small .kept .1 .1 .1 .1 .1 .1 .1 .1 .1 .1 .1 .0
 
 returns : tie.Need-returns
-returns c = let g = c .before .before .before .before .before .before .before .before .before .before .before .before .before .before .before .before .before .before .before .before .before .before .before .before .before .before .before .before .before .before .before .before .before .before .args in let y = mode-by-line (g .mode) in rw (result-whole (readingOf (g .mode)) (g .text .now), origins-whole y (g .text .now)) (c .before .before .before .before .before .before .before .before .before .before .before .before .before .before .before .before .tidy-small .ensures)
+returns c = let g = c .before .before .before .before .before .before .before .before .before .before .before .before .before .before .before .before .before .before .before .before .before .before .before .before .before .before .before .before .before .before .before .before .before .before .args in let y = mode-lined (g .mode) in rw (result-whole (readingOf (g .mode)) (g .text .now), origins-whole y (g .text .now)) (c .before .before .before .before .before .before .before .before .before .before .before .before .before .before .before .before .tidy-small .ensures)
 
 pub optimize-spec : {M : Type 1} → statement M
 optimize-spec =

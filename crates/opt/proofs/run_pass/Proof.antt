@@ -13,7 +13,7 @@ use Rattle.passes.specs.Passes.{resultOf}
 use Rattle.limits.specs.Entry.{small, isShort}
 use Rattle.limits.proofs.AnswerLaws.{pass-bad, pass-good, bad-runs, bad-done, out-kept}
 use Rattle.opt.proofs.EntryLaws.{all-kept, result-one, origins-one}
-use Rattle.reading.proofs.ByLine.{mode-by-line}
+use Rattle.reading.proofs.Lined.{mode-lined}
 use Rattle.opt.proofs.run_pass.Statement.{statement}
 use Rattle.opt.proofs.run_pass.Tie as tie
 
@@ -54,7 +54,7 @@ same-length-8 : tie.Need-same-length-8
 same-length-8 c = c .before .before .before .before .before .before .before .before .before .before .before .before .before .before .before .before .tidy-small .kept .1 .1 .1 .1 .1 .1 .1 .1 .1 .1 .1 .0
 
 returns-2 : tie.Need-returns-2
-returns-2 c = let g = c .before .before .before .before .before .before .before .before .before .before .before .before .before .before .before .before .before .before .before .before .before .before .before .before .before .before .before .before .before .before .before .before .before .before .before .before .args in let t = g .text .now in let xs = resultOf (stepOf (readingOf (g .mode)) (g .pass)) t in let s = isShort small (length (g .a .now)) (length (g .b .now)) (length (g .c .now)) (length (g .d .now)) (length (g .e .now)) (length (g .u .now)) in let w = c .before .before .before .before .before .before .before .before .before .before .before .before .before .before .before .before .tidy-small .ensures in let q = result-one (readingOf (g .mode)) (g .pass) t in ((rw q (w .0)) ∙ pass-good small (g .pass) (g .mode) s t xs (length (g .out .now)) (length (g .orig .now)) (so (c .before .before .before .before .before .before .before .before .before .before .before .before .before .before .before .before .before .before .before .before .before .before .before .before .before .before .is-pass .ensures) (not-false _ (c .before .before .before .before .before .before .before .before .before .before .before .before .before .before .before .before .before .before .before .before .before .before .before .before .before .if1 .left))), (rw q (w .1 .0), rw (origins-one (mode-by-line (g .mode)) (g .pass) t) (w .1 .1)))
+returns-2 c = let g = c .before .before .before .before .before .before .before .before .before .before .before .before .before .before .before .before .before .before .before .before .before .before .before .before .before .before .before .before .before .before .before .before .before .before .before .before .args in let t = g .text .now in let xs = resultOf (stepOf (readingOf (g .mode)) (g .pass)) t in let s = isShort small (length (g .a .now)) (length (g .b .now)) (length (g .c .now)) (length (g .d .now)) (length (g .e .now)) (length (g .u .now)) in let w = c .before .before .before .before .before .before .before .before .before .before .before .before .before .before .before .before .tidy-small .ensures in let q = result-one (readingOf (g .mode)) (g .pass) t in ((rw q (w .0)) ∙ pass-good small (g .pass) (g .mode) s t xs (length (g .out .now)) (length (g .orig .now)) (so (c .before .before .before .before .before .before .before .before .before .before .before .before .before .before .before .before .before .before .before .before .before .before .before .before .before .before .is-pass .ensures) (not-false _ (c .before .before .before .before .before .before .before .before .before .before .before .before .before .before .before .before .before .before .before .before .before .before .before .before .before .if1 .left))), (rw q (w .1 .0), rw (origins-one (mode-lined (g .mode)) (g .pass) t) (w .1 .1)))
 
 pub run-pass-spec : {M : Type 1} → statement M
 run-pass-spec =

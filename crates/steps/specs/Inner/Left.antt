@@ -8,8 +8,9 @@ use lib.ListN.{length, replicate}
 use Rattle.lines.specs.Lf.{linesOf, unlines}
 use Rattle.lines.specs.Inner.Out.{putAt}
 use Rattle.lines.specs.Acts.{apply}
+use Rattle.lexical.specs.Joined.{restsIn}
 use Rattle.place.specs.Inner.Parents.{idsParents, pathParents}
-use Rattle.reading.specs.Reading.{strictAt, readingOf}
+use Rattle.reading.specs.Reading.{strictAt, joinedAt, readingOf}
 use Rattle.temps.specs.Inner.Scratch.{tempScratch}
 use Rattle.once.specs.Once.{onceActs}
 use Rattle.phis.specs.Phis.{round}
@@ -40,11 +41,11 @@ leftE mode k s e =
     e)
 
 -- the block numbers u: the parents of the blocks that passes 2, 4 and 6 go by
-unfoldable pub leftU : ℕ → List ℕ → List ℕ → List ℕ
-leftU k s u =
+unfoldable pub leftU : (mode k : ℕ) → List ℕ → List ℕ → List ℕ
+leftU mode k s u =
     cond (eqb k 2) (putAt u 0 (pathParents (linesOf s)))
-    (cond (eqb k 4) (putAt u 0 (idsParents (linesOf s)))
-    (cond (eqb k 6) (putAt u 0 (idsParents (linesOf s)))
+    (cond (eqb k 4) (putAt u 0 (idsParents (restsIn (joinedAt mode) (linesOf s))))
+    (cond (eqb k 6) (putAt u 0 (idsParents (restsIn (joinedAt mode) (linesOf s))))
     u))
 
 -- the four after step k over the text s
@@ -52,7 +53,7 @@ pub record Left (mode k : ℕ) (s c d e u c′ d′ e′ u′ : List ℕ) : Type
   pub c-left : c′ ≡ leftC mode k s c
   pub d-left : d′ ≡ leftD mode k s d
   pub e-left : e′ ≡ leftE mode k s e
-  pub u-left : u′ ≡ leftU k s u
+  pub u-left : u′ ≡ leftU mode k s u
 
 -- a table that a step used is zeros, and another is as it was
 unfoldable pub cleared : Bool → List ℕ → List ℕ

@@ -1,6 +1,7 @@
 -- `answers::placed::place_lines` is safe and ends. There is room for each line and for each brace that opens. Assumes nothing.
 use borrow.Author.Needs.{needs}
 use Prim.Native.Nat.{ℕ}
+use mathlib.Core.Bool.{false}
 use native.Mathlib.Omega.{arith}
 use lib.ListN.{length-replicate}
 use Rattle.place.proofs.Rooms.{ids-parents-text}
@@ -48,7 +49,7 @@ slice-aggregate-place-lines : tie.Need-slice-aggregate-place-lines
 slice-aggregate-place-lines c = search needs
 
 place-lines-requires : tie.Need-place-lines-requires
-place-lines-requires c κs = let a = c .before .before .before .before .before .before .before .before .before .before .before .before .before .before .before .args .a .now in omega (arith, lines-count a, ids-parents-text a, length-replicate {A = ℕ} 4096 0)
+place-lines-requires c κs = let a = c .before .before .before .before .before .before .before .before .before .before .before .before .before .before .before .args .a .now in omega (arith, lines-count a, ids-parents-text false a, length-replicate {A = ℕ} 4096 0)
 
 same-length : tie.Need-same-length
 same-length c = search needs

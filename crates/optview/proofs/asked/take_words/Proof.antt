@@ -4,10 +4,10 @@ use Rattle.optview.proofs.asked.take_words.Statement.{statement}
 use Rattle.optview.proofs.asked.take_words.Tie as tie
 
 abbrev Inv-loop : tie.InvT-loop
-Inv-loop text₀ mode₀ at₀ left₀ text mode at left = Unit {0}
+Inv-loop text₀ strict₀ joined₀ at₀ left₀ text strict joined at left = Unit {0}
 
 abbrev μ-loop : tie.MeasureT-loop
-μ-loop text₀ mode₀ at₀ left₀ text mode at left = left
+μ-loop text₀ strict₀ joined₀ at₀ left₀ text strict joined at left = left
 
 arg-count-requires : tie.Need-arg-count-requires Inv-loop μ-loop
 arg-count-requires c κs = search needs
@@ -27,6 +27,9 @@ enum-told-2 c = search needs
 enum-told-3 : tie.Need-enum-told-3 Inv-loop μ-loop
 enum-told-3 c = search needs
 
+enum-told-4 : tie.Need-enum-told-4 Inv-loop μ-loop
+enum-told-4 c = search needs
+
 past-requires : tie.Need-past-requires Inv-loop μ-loop
 past-requires c κs = search needs
 
@@ -36,8 +39,8 @@ asked-for-requires c κs = search needs
 returns : tie.Need-returns Inv-loop μ-loop
 returns c = search needs
 
-enum-told-4 : tie.Need-enum-told-4 Inv-loop μ-loop
-enum-told-4 c = search needs
+enum-told-5 : tie.Need-enum-told-5 Inv-loop μ-loop
+enum-told-5 c = search needs
 
 asked-for-requires-2 : tie.Need-asked-for-requires-2 Inv-loop μ-loop
 asked-for-requires-2 c κs = search needs
@@ -75,10 +78,11 @@ take-words-spec =
     enum-told
     enum-told-2
     enum-told-3
+    enum-told-4
     past-requires
     asked-for-requires
     returns
-    enum-told-4
+    enum-told-5
     asked-for-requires-2
     returns-2
     past-requires-2
