@@ -55,6 +55,23 @@ fn put_note(
     }
 }
 
+// The front of raw line `k`: its name, where it belongs, its fate and its number.
+fn put_raw_front(k: usize, w: Went) -> bool {
+    put::bytes(b"<li tabindex=\"0\" id=\"r")
+        & put::place(k)
+        & put::bytes(b"\" data-to=\"")
+        & put_to(w)
+        & put::bytes(b"\" class=\"")
+        & put_fate(w)
+        & put::bytes(b"<b>")
+        & put::place(k)
+}
+
+// A line as it stands, behind its number.
+fn put_code(line: &[u8]) -> bool {
+    put::bytes(b"</b><code>") & escape::put_text(line) & put::bytes(b"</code>")
+}
+
 // Writes raw line `k`.
 fn put_raw_line(
     k: usize,
@@ -67,17 +84,8 @@ fn put_raw_line(
     gone: u8,
     held: u8,
 ) -> bool {
-    put::bytes(b"<li tabindex=\"0\" id=\"r")
-        & put::place(k)
-        & put::bytes(b"\" data-to=\"")
-        & put_to(w)
-        & put::bytes(b"\" class=\"")
-        & put_fate(w)
-        & put::bytes(b"<b>")
-        & put::place(k)
-        & put::bytes(b"</b><code>")
-        & escape::put_text(line)
-        & put::bytes(b"</code>")
+    put_raw_front(k, w)
+        & put_code(line)
         & put_note(k, w, line, tidy, next, at, end, gone, held)
         & put::bytes(b"</li>\n")
 }
@@ -151,9 +159,7 @@ fn put_tidy_line(n: usize, line: &[u8], next: &[usize], at: usize, end: usize) -
         & put_names(next, at, end)
         & put::bytes(b"\"><b>")
         & put::place(n)
-        & put::bytes(b"</b><code>")
-        & escape::put_text(line)
-        & put::bytes(b"</code>")
+        & put_code(line)
         & put_sources(next, at, end)
         & put::bytes(b"</li>\n")
 }
