@@ -32,7 +32,7 @@ module _ (f : ℕ → Bool) (g : ℕ → ℕ) (l m m′ : List ℕ) (k o p : ℕ
 
 -- ---- the moves of the acts
 
-act-plain : (d : BlockLine) (above : List (List ℕ)) (below : List BlockLine) (m : Bool) → plainly (bindAct d above below m) ≡ true
+pub act-plain : (d : BlockLine) (above : List (List ℕ)) (below : List BlockLine) (m : Bool) → plainly (bindAct d above below m) ≡ true
 unfolding bindAct
 act-plain d above below m = go (anyBound (piecesOf (d .line)) above d below) m
   where

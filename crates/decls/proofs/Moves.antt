@@ -98,7 +98,7 @@ unfolding declAct
 decl-plain indent [] = refl
 decl-plain indent (x ∷ xs) = refl
 
-act-plain : (run : List (List ℕ)) (l : List ℕ) → plainly (actOf run l) ≡ true
+pub act-plain : (run : List (List ℕ)) (l : List ℕ) → plainly (actOf run l) ≡ true
 unfolding actOf
 act-plain run l = go (isDecl (trimOf l))
   where

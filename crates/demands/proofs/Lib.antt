@@ -1,5 +1,6 @@
 pub mod Cuts
 pub mod Records
+pub mod Gone
 pub mod Split
 pub mod Texts
 pub mod Strict

@@ -103,7 +103,7 @@ onward-taken gs (at n) = refl
 onward-taken gs (held n) = sym (taken-twice (fateAt gs n))
 onward-taken gs lost = refl
 
-follow-at : (fs gs : List Fate) (n : ℕ) → fateAt (follow fs gs) n ≡ onward gs (fateAt fs n)
+pub follow-at : (fs gs : List Fate) (n : ℕ) → fateAt (follow fs gs) n ≡ onward gs (fateAt fs n)
 unfolding follow fateAt onward
 follow-at [] gs n = refl
 follow-at (f ∷ fs) gs zero = refl
