@@ -8,6 +8,7 @@ ghost use lib.ListN.{length, getD, set, take, drop, replicate};
 ghost use Rattle.lines.specs.Lf.{part, upTo, prefixed, same, linesOf, lowBytes};
 ghost use Rattle.lines.specs.Steps.{splitLines};
 ghost use Rattle.lines.specs.Inner.Out.{Wrote};
+ghost use Rattle.origins.specs.declared.Form.the-variants as form;
 ghost use Rattle.origins.specs.Form.{formShape, goneOf, sizeOf, fateByte, outLine, recordBytes, fileOf};
 ghost use Rattle.origins.specs.Inner.Codes.{half, farMove, noteOf, takenCode, landGo, standing};
 ghost use Rattle.origins.specs.Inner.Written.{saidFirst, firstIs, firstEnd, wentsBy, bareBy};
@@ -256,8 +257,8 @@ fn put_number(out: &mut [u8], o: usize, w: usize, n: usize) -> usize
     p
 }
 
-// Writes the record of line `i`, and returns the place after it.
-pub fn put_record(out: &mut [u8], o: usize, f: Form, i: usize, w: Went) -> usize
+// Writes the record of line `i` in a form, and returns the place after it.
+fn put_in(out: &mut [u8], o: usize, f: Form, i: usize, w: Went) -> usize
     requires { ⌜ o + sizeOf (formShape f) ≤ length (now out) ⌝ }
     ensures { λ r. ⌜ Wrote (now (out .entry)) o (recordBytes (formShape f) i w) (now (out .exit)) r ⌝ }
 {
@@ -266,6 +267,33 @@ pub fn put_record(out: &mut [u8], o: usize, f: Form, i: usize, w: Went) -> usize
     let r = put_number(out, q, width_of(f), i);
     let s = lines::put_byte(out, r, fate_byte(w));
     put_number(out, s, width_of(f), out_line(f, w))
+}
+
+// A record in the form `OL`.
+fn put_old(out: &mut [u8], o: usize, i: usize, w: Went) -> usize
+    requires { ⌜ o + sizeOf (formShape form.Ol) ≤ length (now out) ⌝ }
+    ensures { λ r. ⌜ Wrote (now (out .entry)) o (recordBytes (formShape form.Ol) i w) (now (out .exit)) r ⌝ }
+{
+    put_in(out, o, Form::Ol, i, w)
+}
+
+// One in the form `OM`.
+fn put_new(out: &mut [u8], o: usize, i: usize, w: Went) -> usize
+    requires { ⌜ o + sizeOf (formShape form.Om) ≤ length (now out) ⌝ }
+    ensures { λ r. ⌜ Wrote (now (out .entry)) o (recordBytes (formShape form.Om) i w) (now (out .exit)) r ⌝ }
+{
+    put_in(out, o, Form::Om, i, w)
+}
+
+// Writes the record of line `i`, and returns the place after it. Each form has a function of its own, so that the compiler knows how wide a number is.
+pub fn put_record(out: &mut [u8], o: usize, f: Form, i: usize, w: Went) -> usize
+    requires { ⌜ o + sizeOf (formShape f) ≤ length (now out) ⌝ }
+    ensures { λ r. ⌜ Wrote (now (out .entry)) o (recordBytes (formShape f) i w) (now (out .exit)) r ⌝ }
+{
+    match f {
+        Form::Ol => put_old(out, o, i, w),
+        Form::Om => put_new(out, o, i, w),
+    }
 }
 
 // Where a raw line from `i` ends whose LF, or the end, stands at `e`: before a CR just before that LF.
