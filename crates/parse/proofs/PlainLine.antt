@@ -191,6 +191,19 @@ value-at e l v =
 pub value-room : (e : ℕ) (l : List ℕ) → plainValue e l ≡ true → e + 5 ≤ length l
 value-room e l v = value-at e l v .room
 
+-- a line whose last byte is `;`, from a place in it on
+pub shut-last : (l : List ℕ) (a : ℕ) → a < length l → getD l (length l - 1) 0 ≡ 59 → getD (drop a l) (length (drop a l) - 1) 0 ≡ 59
+shut-last l a h e =
+    let z : a + (length (drop a l) - 1) ≡ length l - 1 = omega (arith, length-drop a l) in
+    getD-drop a l (length (drop a l) - 1) 0 ∙ ap (λ (n : ℕ). getD l n 0) z ∙ e
+
+pub shut-trim : (l : List ℕ) (a : ℕ) → a ≡ fromOf l → a < length l → getD l (length l - 1) 0 ≡ 59 → trimOf l ≡ drop a l
+unfolding trimOf
+shut-trim l a p h e =
+    let body : List ℕ = drop a l in
+    let x : length body ≡ toOf body = ends-plain body (omega (arith, length-drop a l)) (ap (λ (b : ℕ). plainByte b) (shut-last l a h e)) in
+    ap (λ (n : ℕ). take (toOf (drop n l)) (drop n l)) (sym p) ∙ ap (λ (n : ℕ). take n body) (sym x) ∙ take-length body
+
 -- a text with one space at its end
 trim-spaced : (x : List ℕ) → 2 ≤ length x → plainByte (getD x 0 0) ≡ true → getD x (length x - 1) 0 ≡ 32 → plainByte (getD x (length x - 2) 0) ≡ true → trimOf x ≡ take (length x - 1) x
 unfolding trimOf toOf
@@ -222,13 +235,10 @@ module _ (l : List ℕ) (a e : ℕ) (p : a ≡ fromOf l) (r : getD l a 0 ≡ 114
   body-at j m z = getD-drop a l j 0 ∙ ap (λ (n : ℕ). getD l n 0) z
 
   body-shut : getD body (length body - 1) 0 ≡ 59
-  body-shut = body-at (length body - 1) (length l - 1) (omega (arith, length-drop a l, v .room, q)) ∙ v .shut
+  body-shut = shut-last l a (omega (arith, v .room, q)) (v .shut)
 
   trimmed : trimOf l ≡ body
-  unfolding trimOf
-  trimmed =
-      let x : length body ≡ toOf body = ends-plain body (omega (arith, length-drop a l, v .room, q)) (ap (λ (b : ℕ). plainByte b) body-shut) in
-      ap (λ (n : ℕ). take (toOf (drop n l)) (drop n l)) (sym p) ∙ ap (λ (n : ℕ). take n body) (sym x) ∙ take-length body
+  trimmed = shut-trim l a p (omega (arith, v .room, q)) (v .shut)
 
   u-long : length u ≡ length l - a - 1
   u-long = omega (arith, length-take-le (length body - 1) body (omega arith), length-drop a l)
