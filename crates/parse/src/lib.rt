@@ -339,6 +339,32 @@ pub fn declares(line: &[u8]) -> bool
     declares_at(line, a)
 }
 
+// What a line is whose first byte that is no white space is `r`, at the place `a`: most are plainly stores.
+fn parse_reg(line: &[u8], a: usize) -> Line
+    requires { ⌜ (a ≡ fromOf (now line)) × (getD (now line) a 0 ≡ 114) ⌝ }
+    ensures { λ r. ⌜ r ≡ parseOf (now (line .entry)) ⌝ }
+{
+    let e = digits_end(line, a + 1);
+    if e - a < 2 {
+        return Line::Other;
+    }
+    match plain_store(line, a, e) {
+        names::RegName::Reg(q) => {
+            return Line::Store(Store {
+                reg: q,
+                from: e + 3,
+                to: line.len() - 1,
+            });
+        }
+        names::RegName::None => {}
+    }
+    match parse_any(line) {
+        Line::Decl => Line::Decl,
+        Line::Store(s) => Line::Store(s),
+        Line::Other => Line::Other,
+    }
+}
+
 // What a line is: most are told by their first byte that is no white space. The answer for the others is built anew from its parts: handed on as a whole,
 // it would be copied once more for every line.
 pub fn parse(line: &[u8]) -> Line
@@ -347,21 +373,9 @@ pub fn parse(line: &[u8]) -> Line
     let a = text::trim_from(line);
     let c = lines::byte_at(line, a);
     if c == b'r' {
-        let e = digits_end(line, a + 1);
-        if e - a < 2 {
-            return Line::Other;
-        }
-        match plain_store(line, a, e) {
-            names::RegName::Reg(q) => {
-                return Line::Store(Store {
-                    reg: q,
-                    from: e + 3,
-                    to: line.len() - 1,
-                });
-            }
-            names::RegName::None => {}
-        }
-    } else if (32 < c) & (c < 128) {
+        return parse_reg(line, a);
+    }
+    if (32 < c) & (c < 128) {
         if c != b'l' {
             return Line::Other;
         }
