@@ -8,7 +8,7 @@ use native.Mathlib.Numerals.{add-one}
 use borrow.Author.Tests.{eqb-true, ltb-true}
 use lib.Dec.{eqb, ltb}
 use lib.ListN.{length, take, drop, getD, length-take, length-drop, take-append-drop, drop-of-length-le}
-use lib.Seq.{drop-cons, drop-drop, take-take, take-nil, drop-nil}
+use lib.Seq.{drop-cons, drop-drop, take-take}
 use Rattle.lines.specs.Lf.{part, upTo, endsIn}
 use Rattle.lines.proofs.Tests.{no, and-left}
 use Rattle.text.specs.Class.{isName}
@@ -22,6 +22,7 @@ use Rattle.names.proofs.Texts.{reg-names}
 use Rattle.parse.specs.Parse.{isDecl, storeBy, splitStore, storeIn, parseOf, textOf}
 use Rattle.parse.specs.declared.Line.{Line}
 use Rattle.parse.specs.declared.Line.the-variants as line
+use Rattle.parse.proofs.Shut.{drop-take}
 use Rattle.words.specs.Runs.{flush, runsGo, runs}
 use Rattle.words.proofs.Walk.{go-gap}
 use Rattle.slots.specs.Inner.Slots.{withEntry}
@@ -63,13 +64,6 @@ last-at (x ∷ t) h =
     sym (take-append-drop (length (x ∷ t) - 1) (x ∷ t))
     ∙ ap (λ (r : List ℕ). take (length (x ∷ t) - 1) (x ∷ t) ++ r)
     (drop-cons (x ∷ t) (length (x ∷ t) - 1) 0 (omega arith) ∙ ap (λ (b : ℕ). b ∷ drop (suc (length (x ∷ t) - 1)) (x ∷ t)) (eqb-true _ 59 h) ∙ ap (λ (r : List ℕ). 59 ∷ r) (drop-of-length-le (x ∷ t) k))
-
--- the front of a text, from a place on
-drop-take : (p n : ℕ) (l : List ℕ) → drop p (take n l) ≡ take (n - p) (drop p l)
-drop-take zero n l = let z : n ≡ n - 0 = omega arith in ap (λ (k : ℕ). take k l) z
-drop-take (suc p) zero l = let z : 0 ≡ 0 - suc p = omega arith in drop-nil (suc p) ∙ ap (λ (k : ℕ). take k (drop (suc p) l)) z
-drop-take (suc p) (suc n) [] = sym (take-nil (suc n - suc p))
-drop-take (suc p) (suc n) (x ∷ l) = let z : n - p ≡ suc n - suc p = omega arith in drop-take p n l ∙ ap (λ (k : ℕ). take k (drop p l)) z
 
 -- a part of a part
 part-in : (a n p q : ℕ) (l : List ℕ) → q ≤ n → part p q (take n (drop a l)) ≡ part (a + p) (a + q) l

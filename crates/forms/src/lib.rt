@@ -9,13 +9,14 @@ ghost use Rattle.lines.specs.Lf.{among, partsOf, prefixed};
 ghost use Rattle.lines.specs.Inner.Out.{Wrote};
 ghost use Rattle.lexical.specs.Idents.{wordsIn};
 ghost use Rattle.forms.specs.Control.{isControl};
+ghost use Rattle.forms.specs.Inner.Control.{controlFront};
 ghost use Rattle.forms.specs.Primary.{allIdents, isPlainRef, keyword, isOperator, bareGo, isPrimary, bare, parenIfNeeded};
 ghost use Rattle.forms.specs.Breaks.{writes, writesAny, breaksWith};
 ghost use Rattle.forms.specs.Inner.Breaks.{writesHere, startLen};
 
-// Whether a line, its front trimmed, is one that a condition or a loop begins.
-pub fn is_control_header(t: &[u8]) -> bool
-    ensures { λ r. ⌜ r ≡ isControl (now (t .entry)) ⌝ }
+// Whether a line, its front trimmed, begins as one that a condition or a loop begins.
+fn begins_control(t: &[u8]) -> bool
+    ensures { λ r. ⌜ r ≡ controlFront (now (t .entry)) ⌝ }
 {
     lines::starts_with(t, b"while (")
         | lines::starts_with(t, b"while(")
@@ -26,7 +27,16 @@ pub fn is_control_header(t: &[u8]) -> bool
         | lines::starts_with(t, b"switch (")
         | lines::starts_with(t, b"switch(")
         | lines::starts_with(t, b"do {")
-        | lines::contains(t, b": while (")
+}
+
+// Whether a line, its front trimmed, is one that a condition or a loop begins: most are told by their fronts, and then nothing is searched for.
+pub fn is_control_header(t: &[u8]) -> bool
+    ensures { λ r. ⌜ r ≡ isControl (now (t .entry)) ⌝ }
+{
+    if begins_control(t) {
+        return true;
+    }
+    lines::contains(t, b": while (")
         | lines::contains(t, b": for (")
         | lines::contains(t, b"} else if (")
 }

@@ -1,3 +1,4 @@
 pub mod ParseLaws
 pub mod Plain
 pub mod PlainLine
+pub mod Shut

@@ -191,15 +191,42 @@ value-at e l v =
 pub value-room : (e : ℕ) (l : List ℕ) → plainValue e l ≡ true → e + 5 ≤ length l
 value-room e l v = value-at e l v .room
 
--- a text with one space at its end
-trim-spaced : (x : List ℕ) → 2 ≤ length x → plainByte (getD x 0 0) ≡ true → getD x (length x - 1) 0 ≡ 32 → plainByte (getD x (length x - 2) 0) ≡ true → trimOf x ≡ take (length x - 1) x
-unfolding trimOf toOf
-trim-spaced x h f e g =
+-- a line whose last byte is `;`, from a place in it on
+pub shut-last : (l : List ℕ) (a : ℕ) → a < length l → getD l (length l - 1) 0 ≡ 59 → getD (drop a l) (length (drop a l) - 1) 0 ≡ 59
+shut-last l a h e =
+    let z : a + (length (drop a l) - 1) ≡ length l - 1 = omega (arith, length-drop a l) in
+    getD-drop a l (length (drop a l) - 1) 0 ∙ ap (λ (n : ℕ). getD l n 0) z ∙ e
+
+pub shut-trim : (l : List ℕ) (a : ℕ) → a ≡ fromOf l → a < length l → getD l (length l - 1) 0 ≡ 59 → trimOf l ≡ drop a l
+unfolding trimOf
+shut-trim l a p h e =
+    let body : List ℕ = drop a l in
+    let x : length body ≡ toOf body = ends-plain body (omega (arith, length-drop a l)) (ap (λ (b : ℕ). plainByte b) (shut-last l a h e)) in
+    ap (λ (n : ℕ). take (toOf (drop n l)) (drop n l)) (sym p) ∙ ap (λ (n : ℕ). take n body) (sym x) ∙ take-length body
+
+-- a text with one space at its end, or at its front
+pub spaced-to : (x : List ℕ) → 2 ≤ length x → getD x (length x - 1) 0 ≡ 32 → plainByte (getD x (length x - 2) 0) ≡ true → length x - 1 ≡ toOf x
+unfolding toOf
+spaced-to x h e g =
     let c : ℕ = getD x (length x - 2) 0 in
     let z : length x - 2 ≡ length x - 1 - 1 = omega arith in
     let b : c ≡ cond (leb 1 (length x - 1)) (getD x (length x - 1 - 1) 0) 0 = sym (ap (λ (t : Bool). cond t (getD x (length x - 1 - 1) 0) 0) (le-leb 1 (length x - 1) (omega arith)) ∙ ap (λ (n : ℕ). getD x n 0) (sym z)) in
-    let t : length x - 1 ≡ toOf x = back-told x (length x - 1) c (omega arith) (back-space x (length x) (omega arith) (omega arith) e) b (plain-above c g) (plain-below c g) in
-    ap (λ (n : ℕ). take (toOf (drop n x)) (drop n x)) (sym (starts-plain x f)) ∙ ap (λ (n : ℕ). take n x) (sym t)
+    back-told x (length x - 1) c (omega arith) (back-space x (length x) (omega arith) (omega arith) e) b (plain-above c g) (plain-below c g)
+
+trim-spaced : (x : List ℕ) → 2 ≤ length x → plainByte (getD x 0 0) ≡ true → getD x (length x - 1) 0 ≡ 32 → plainByte (getD x (length x - 2) 0) ≡ true → trimOf x ≡ take (length x - 1) x
+unfolding trimOf
+trim-spaced x h f e g = ap (λ (n : ℕ). take (toOf (drop n x)) (drop n x)) (sym (starts-plain x f)) ∙ ap (λ (n : ℕ). take n x) (sym (spaced-to x h e g))
+
+pub spaced-from : (x : List ℕ) → 2 ≤ length x → getD x 0 0 ≡ 32 → plainByte (getD x 1 0) ≡ true → 1 ≡ fromOf x
+spaced-from x h e f = front-told x 1 (getD x 1 0) (omega arith) (front-space x 0 (omega arith) e) refl (plain-above (getD x 1 0) f) (plain-below (getD x 1 0) f)
+
+pub spaced-end : (x : List ℕ) → 2 ≤ length x → getD x 0 0 ≡ 32 → plainByte (getD x 1 0) ≡ true → plainByte (getD x (length x - 1) 0) ≡ true → toEnd x ≡ length x
+spaced-end x h e f g =
+    let d = length-drop 1 x in
+    let z : 1 + (length (drop 1 x) - 1) ≡ length x - 1 = omega arith in
+    let c : getD (drop 1 x) (length (drop 1 x) - 1) 0 ≡ getD x (length x - 1) 0 = getD-drop 1 x (length (drop 1 x) - 1) 0 ∙ ap (λ (n : ℕ). getD x n 0) z in
+    let t = ends-plain (drop 1 x) (omega arith) (ap (λ (b : ℕ). plainByte b) c ∙ g) in
+    ap (λ (n : ℕ). n + toOf (drop n x)) (sym (spaced-from x h e f)) ∙ omega arith
 
 module _ (l : List ℕ) (a e : ℕ) (p : a ≡ fromOf l) (r : getD l a 0 ≡ 114) (q : e ≡ a + 1 + digitsLen (drop (a + 1) l)) (v : ValueAt e l) where
   abbrev body : List ℕ
@@ -222,13 +249,10 @@ module _ (l : List ℕ) (a e : ℕ) (p : a ≡ fromOf l) (r : getD l a 0 ≡ 114
   body-at j m z = getD-drop a l j 0 ∙ ap (λ (n : ℕ). getD l n 0) z
 
   body-shut : getD body (length body - 1) 0 ≡ 59
-  body-shut = body-at (length body - 1) (length l - 1) (omega (arith, length-drop a l, v .room, q)) ∙ v .shut
+  body-shut = shut-last l a (omega (arith, v .room, q)) (v .shut)
 
   trimmed : trimOf l ≡ body
-  unfolding trimOf
-  trimmed =
-      let x : length body ≡ toOf body = ends-plain body (omega (arith, length-drop a l, v .room, q)) (ap (λ (b : ℕ). plainByte b) body-shut) in
-      ap (λ (n : ℕ). take (toOf (drop n l)) (drop n l)) (sym p) ∙ ap (λ (n : ℕ). take n body) (sym x) ∙ take-length body
+  trimmed = shut-trim l a p (omega (arith, v .room, q)) (v .shut)
 
   u-long : length u ≡ length l - a - 1
   u-long = omega (arith, length-take-le (length body - 1) body (omega arith), length-drop a l)
@@ -273,21 +297,22 @@ module _ (l : List ℕ) (a e : ℕ) (p : a ≡ fromOf l) (r : getD l a 0 ≡ 114
   rhs-long : length rhs ≡ length l - (e + 3)
   rhs-long = omega (arith, length-drop (k + 1) u, u-long, v .room)
 
+  rhs-two : 2 ≤ length rhs
+  rhs-two = omega (arith, rhs-long, v .room)
+
+  rhs-gap : getD rhs 0 0 ≡ 32
+  rhs-gap = rhs-at 0 (e + 2) (omega (arith, v .room)) (omega arith) ∙ v .next
+
+  rhs-first : plainByte (getD rhs 1 0) ≡ true
+  rhs-first = ap (λ (b : ℕ). plainByte b) (rhs-at 1 (e + 3) (omega (arith, v .room)) (omega arith)) ∙ v .first
+
   value-from : 1 ≡ fromOf rhs
-  value-from =
-      let h : 2 ≤ length rhs = omega (arith, rhs-long, v .room) in
-      let c : getD rhs 1 0 ≡ getD l (e + 3) 0 = rhs-at 1 (e + 3) (omega (arith, v .room)) (omega arith) in
-      let f : plainByte (getD rhs 1 0) ≡ true = ap (λ (b : ℕ). plainByte b) c ∙ v .first in
-      front-told rhs 1 (getD rhs 1 0) (omega arith) (front-space rhs 0 (omega arith) (rhs-at 0 (e + 2) (omega (arith, v .room)) (omega arith) ∙ v .next)) refl
-      (plain-above (getD rhs 1 0) f) (plain-below (getD rhs 1 0) f)
+  value-from = spaced-from rhs rhs-two rhs-gap rhs-first
 
   value-to : toEnd rhs ≡ length rhs
   value-to =
-      let d = length-drop 1 rhs in
-      let c : getD (drop 1 rhs) (length (drop 1 rhs) - 1) 0 ≡ getD l (length l - 2) 0 =
-      getD-drop 1 rhs (length (drop 1 rhs) - 1) 0 ∙ rhs-at (1 + (length (drop 1 rhs) - 1)) (length l - 2) (omega (arith, v .room)) (omega (arith, rhs-long, v .room)) in
-      let t = ends-plain (drop 1 rhs) (omega (arith, rhs-long, v .room)) (ap (λ (b : ℕ). plainByte b) c ∙ v .last) in
-      ap (λ (n : ℕ). n + toOf (drop n rhs)) (sym value-from) ∙ omega (arith, rhs-long, v .room)
+      spaced-end rhs rhs-two rhs-gap rhs-first
+      (ap (λ (b : ℕ). plainByte b) (rhs-at (length rhs - 1) (length l - 2) (omega (arith, v .room)) (omega (arith, rhs-long, v .room))) ∙ v .last)
 
   store-is : (g : Register) → name.Reg g ≡ regOf (part a e l) → line.Store (record { reg = g; from = e + 3; to = length l - 1 }) ≡ parseOf l
   unfolding parseOf storeIn

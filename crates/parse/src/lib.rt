@@ -1,15 +1,15 @@
 // Reading a line.
 ghost use mathlib.Core.Path.{_≡_};
-ghost use Prim.Native.Nat.{_<_, _≤_, _+_, _^_};
+ghost use Prim.Native.Nat.{_<_, _≤_, _+_, _-_, _^_};
 ghost use mathlib.Core.Bool.{true, cond};
 ghost use lib.Dec.{eqb};
-ghost use lib.ListN.{length, drop, getD};
+ghost use lib.ListN.{length, take, drop, getD};
 ghost use Rattle.lines.specs.Lf.{part, upTo, partsOf};
 ghost use Rattle.text.specs.Trim.{fromOf, trimOf};
 ghost use Rattle.names.specs.Names.{regOf, isReg};
 ghost use Rattle.names.specs.declared.RegName.the-variants.{None};
 ghost use Rattle.parse.specs.Parse.{allRegs, isDecl, storeIn, splitStore, parseOf, textOf};
-ghost use Rattle.parse.specs.Inner.Parse.{digitsLen, shortReg, plainValue};
+ghost use Rattle.parse.specs.Inner.Parse.{digitsLen, shortReg, NameTo, plainValue};
 
 // A store: its register, and the place of its value in the line.
 pub struct Store {
@@ -232,11 +232,98 @@ fn plain_store(line: &[u8], a: usize, e: usize) -> names::RegName
     names::reg_name(&line[a..e])
 }
 
+// Where the digits that begin at a place end, in a text whose last byte is `;`: it stops them, so no end is looked for.
+fn digits_to(t: &[u8], i: usize) -> usize
+    requires { ⌜ (i < length (now t)) × (getD (now t) (length (now t) - 1) 0 ≡ 59) ⌝ }
+    ensures { λ r. ⌜ (r ≡ i + digitsLen (drop i (now (t .entry)))) × (r < length (now (t .entry))) ⌝ }
+{
+    let mut j = i;
+    loop {
+        if (t[j] < b'0') | (b'9' < t[j]) {
+            return j;
+        }
+        j += 1;
+    }
+}
+
+// The place after the space at a place, or the place, in a text whose last byte is `;`: both are in it.
+fn past_space(t: &[u8], i: usize) -> usize
+    requires { ⌜ (i < length (now t)) × (getD (now t) (length (now t) - 1) 0 ≡ 59) ⌝ }
+    ensures { λ r. ⌜ (r ≡ cond (eqb (getD (now (t .entry)) i 0) 32) (i + 1) i) × (r < length (now (t .entry))) ⌝ }
+{
+    if t[i] == 32 {
+        return i + 1;
+    }
+    i
+}
+
+// Where the piece at a place ends, where it is plainly a register, in a text whose last byte is `;`: at most one space, `r` and at most nine digits. Else the place.
+fn plain_name(t: &[u8], i: usize) -> usize
+    requires { ⌜ (i < length (now t)) × (getD (now t) (length (now t) - 1) 0 ≡ 59) ⌝ }
+    ensures { λ r. ⌜ (i < r → NameTo (now (t .entry)) i r) ⌝ }
+{
+    let a = past_space(t, i);
+    if t[a] != b'r' {
+        return i;
+    }
+    let e = digits_to(t, a + 1);
+    if e - a < 2 {
+        return i;
+    }
+    if 10 < e - a {
+        return i;
+    }
+    e
+}
+
+// Whether each piece between the commas from a place on is plainly a register, up to the `;` that is the last byte of a text.
+fn plain_names(t: &[u8], a: usize) -> bool
+    requires { ⌜ (a < length (now t)) × (getD (now t) (length (now t) - 1) 0 ≡ 59) ⌝ }
+    ensures { λ r. ⌜ (r ≡ true → allRegs (partsOf 44 (drop a (take (length (now (t .entry)) - 1) (now (t .entry))))) ≡ true) ⌝ }
+{
+    let mut i = a;
+    loop {
+        let e = plain_name(t, i);
+        if e <= i {
+            return false;
+        }
+        if t[e] != b',' {
+            return e + 1 == t.len();
+        }
+        i = e + 1;
+    }
+}
+
+// Whether a line is plainly a declaration, which most are; `a` is the place of its first byte that is no white space.
+fn plain_decl(line: &[u8], a: usize) -> bool
+    requires { ⌜ a ≡ fromOf (now line) ⌝ }
+    ensures { λ r. ⌜ (r ≡ true → isDecl (trimOf (now (line .entry))) ≡ true) ⌝ }
+{
+    let n = line.len();
+    if n < 6 {
+        return false;
+    }
+    if n - 6 < a {
+        return false;
+    }
+    if !((line[a] == b'l')
+        & ((line[a + 1] == b'e') & ((line[a + 2] == b't') & (line[a + 3] == b' ')))) {
+        return false;
+    }
+    if line[n - 1] != b';' {
+        return false;
+    }
+    plain_names(line, a + 4)
+}
+
 // Whether a line is a declaration; `a` is the place of its first byte that is no white space.
 fn declares_at(line: &[u8], a: usize) -> bool
     requires { ⌜ a ≡ fromOf (now line) ⌝ }
     ensures { λ r. ⌜ r ≡ isDecl (trimOf (now (line .entry))) ⌝ }
 {
+    if plain_decl(line, a) {
+        return true;
+    }
     let n = text::trim_to(&line[a..]);
     is_decl(&line[a..a + n])
 }
@@ -252,6 +339,32 @@ pub fn declares(line: &[u8]) -> bool
     declares_at(line, a)
 }
 
+// What a line is whose first byte that is no white space is `r`, at the place `a`: most are plainly stores.
+fn parse_reg(line: &[u8], a: usize) -> Line
+    requires { ⌜ (a ≡ fromOf (now line)) × (getD (now line) a 0 ≡ 114) ⌝ }
+    ensures { λ r. ⌜ r ≡ parseOf (now (line .entry)) ⌝ }
+{
+    let e = digits_end(line, a + 1);
+    if e - a < 2 {
+        return Line::Other;
+    }
+    match plain_store(line, a, e) {
+        names::RegName::Reg(q) => {
+            return Line::Store(Store {
+                reg: q,
+                from: e + 3,
+                to: line.len() - 1,
+            });
+        }
+        names::RegName::None => {}
+    }
+    match parse_any(line) {
+        Line::Decl => Line::Decl,
+        Line::Store(s) => Line::Store(s),
+        Line::Other => Line::Other,
+    }
+}
+
 // What a line is: most are told by their first byte that is no white space. The answer for the others is built anew from its parts: handed on as a whole,
 // it would be copied once more for every line.
 pub fn parse(line: &[u8]) -> Line
@@ -260,21 +373,9 @@ pub fn parse(line: &[u8]) -> Line
     let a = text::trim_from(line);
     let c = lines::byte_at(line, a);
     if c == b'r' {
-        let e = digits_end(line, a + 1);
-        if e - a < 2 {
-            return Line::Other;
-        }
-        match plain_store(line, a, e) {
-            names::RegName::Reg(q) => {
-                return Line::Store(Store {
-                    reg: q,
-                    from: e + 3,
-                    to: line.len() - 1,
-                });
-            }
-            names::RegName::None => {}
-        }
-    } else if (32 < c) & (c < 128) {
+        return parse_reg(line, a);
+    }
+    if (32 < c) & (c < 128) {
         if c != b'l' {
             return Line::Other;
         }

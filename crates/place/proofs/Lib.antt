@@ -17,3 +17,4 @@ pub mod Flats
 pub mod Rooms
 pub mod Lengths
 pub mod Examples
+pub mod LoopTests

@@ -16,7 +16,7 @@ ghost use Rattle.place.specs.Paths.{pathCloses, blockPaths, tops};
 ghost use Rattle.place.specs.Inner.Paths.{isFlat};
 ghost use Rattle.place.specs.Inner.Ends.{endsFrom, endMark, endMarks};
 ghost use Rattle.place.specs.Loops.{opensLoop, insideLoop};
-ghost use Rattle.place.specs.Inner.Loops.{nestOpen, nestClose, nestLine, startsLoop, someLoop, aboveLoop};
+ghost use Rattle.place.specs.Inner.Loops.{loopFront, loopLabel, nestOpen, nestClose, nestLine, startsLoop, someLoop, aboveLoop};
 ghost use Rattle.place.specs.Inner.Parents.{around, curBy, Room, Moved, braces, idsPost, idsParents, pathPre, pathOpen, pathPost, pathParents};
 ghost use Rattle.place.specs.Starts.{startsGo};
 ghost use Rattle.place.specs.Inner.Starts.{startsByLast};
@@ -349,18 +349,37 @@ fn path_open(t: &[u8], c: u32, up: &mut [u32], n: usize) -> Open
     Open { block: c, next: n }
 }
 
-// Whether a trimmed line begins a loop.
-pub fn opens_loop(t: &[u8]) -> bool
-    ensures { λ r. ⌜ r ≡ opensLoop (now (t .entry)) ⌝ }
+// Whether a trimmed line begins as a loop does.
+fn begins_loop(t: &[u8]) -> bool
+    ensures { λ r. ⌜ r ≡ loopFront (now (t .entry)) ⌝ }
 {
     lines::starts_with(t, b"while (")
         | (lines::starts_with(t, b"while(")
             | (lines::starts_with(t, b"for (")
-                | (lines::starts_with(t, b"for(")
-                    | (lines::same(t, b"do {")
-                        | (lines::ends_with(t, b" do {")
-                            | (lines::contains(t, b": while (")
-                                | lines::contains(t, b": for (")))))))
+                | (lines::starts_with(t, b"for(") | lines::same(t, b"do {"))))
+}
+
+// Whether a loop stands behind a label in a trimmed line: none does where there is no `:`.
+fn labels_loop(t: &[u8]) -> bool
+    ensures { λ r. ⌜ r ≡ loopLabel (now (t .entry)) ⌝ }
+{
+    if lines::find_byte(t, 0, b':') >= t.len() {
+        return false;
+    }
+    lines::contains(t, b": while (") | lines::contains(t, b": for (")
+}
+
+// Whether a trimmed line begins a loop.
+pub fn opens_loop(t: &[u8]) -> bool
+    ensures { λ r. ⌜ r ≡ opensLoop (now (t .entry)) ⌝ }
+{
+    if begins_loop(t) {
+        return true;
+    }
+    if lines::ends_with(t, b" do {") {
+        return true;
+    }
+    labels_loop(t)
 }
 
 // The open blocks as far as `inside_loop` asks: how many, and how many there were when the outermost loop's was opened, or 0 where none is a loop's.

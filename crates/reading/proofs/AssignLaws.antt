@@ -5,30 +5,27 @@ use mathlib.Core.Bool.{Bool, true, false, cond, _&&_}
 use mathlib.Core.List.{List, [], _∷_}
 use native.Mathlib.Omega.{arith}
 use native.Mathlib.Numerals.{add-one}
-use borrow.Author.Tests.{eq-eqb, ne-eqb, lt-ltb, le-ltb, ltb-true}
-use lib.Dec.{eqb, ltb}
+use borrow.Author.Tests.{eq-eqb, ne-eqb, eqb-true, lt-ltb, le-ltb, ltb-true, leb-true}
+use lib.Dec.{eqb, leb, ltb}
 use lib.ListN.{length, take, drop, getD, length-take, length-drop}
-use lib.Seq.{take-nil, take-take, drop-drop}
+use lib.Seq.{take-take, drop-drop, getD-take, getD-drop, length-take-le}
 use Rattle.lines.specs.Lf.{part, upTo, endsIn}
 use Rattle.lines.proofs.Tests.{and-left, and-right}
 use Rattle.lines.proofs.LfLaws.{rest-of}
-use Rattle.text.specs.Trim.{fromOf, toEnd, trimOf}
+use Rattle.text.specs.Trim.{fromOf, toOf, toEnd, trimOf}
 use Rattle.text.specs.declared.Span.{Span}
 use Rattle.text.proofs.Trims.{fromOf-le, toEnd-le, trim-part}
+use Rattle.parse.specs.Inner.Parse.{plainByte}
+use Rattle.parse.proofs.Plain.{starts-plain}
+use Rattle.parse.proofs.PlainLine.{spaced-to, spaced-from, spaced-end}
+use Rattle.parse.proofs.Shut.{drop-take}
 use Rattle.reading.specs.declared.Sides.{Sides}
 use Rattle.reading.specs.declared.Assign.{Assign}
 use Rattle.reading.specs.declared.Assign.the-variants.{Split, None}
 use Rattle.reading.specs.Assign.{unended, isAssign, leftOf, rightOf}
-use Rattle.reading.specs.Inner.Assign.{splitAt, sidesOf, assignOf}
+use Rattle.reading.specs.Inner.Assign.{splitAt, plainSides, sidesOf, assignOf}
 
 -- ---- parts of parts
-
--- what is dropped of a front is the front of what is dropped
-pub drop-take : (a m : ℕ) (l : List ℕ) → drop a (take m l) ≡ take (m - a) (drop a l)
-drop-take zero m l = let q : m ≡ m - 0 = omega arith in ap (λ (n : ℕ). take n l) q
-drop-take (suc a) zero l = let q : 0 ≡ 0 - suc a = omega arith in ap (λ (n : ℕ). take n (drop (suc a) l)) q
-drop-take (suc a) (suc m) [] = sym (take-nil (suc m - suc a))
-drop-take (suc a) (suc m) (x ∷ xs) = let q : m - a ≡ suc m - suc a = omega arith in drop-take a m xs ∙ ap (λ (n : ℕ). take n (drop a xs)) q
 
 -- a part of what stands in front
 pub part-take : (s : List ℕ) (m a e : ℕ) → e ≤ m → part a e (take m s) ≡ part a e s
@@ -63,6 +60,91 @@ module _ (u : List ℕ) (k : ℕ) (q′ : k ≡ 0 + upTo 61 u) where
       let g : v .to ≡ toEnd (drop (k + 1) u) = d ∙ ap (λ (l : List ℕ). toEnd l) r in
       ap (λ (x : Span). Split (record { left = x; right = record { from = k + 1 + v .from; to = k + 1 + v .to } })) (span-is w a b)
       ∙ rw (f, g, add-one k) (sym (sides-split h))
+
+  -- with one space on either side of the `=`
+  module _ (p : plainSides k u ≡ true) where
+    far : 2 ≤ k
+    far = leb-true 2 k (and-left (leb 2 k) _ p)
+
+    p₁ : leb (k + 3) (length u) && (eqb (getD u (k - 1) 0) 32 && (eqb (getD u (k + 1) 0) 32 && (plainByte (getD u 0 0) && (plainByte (getD u (k - 2) 0) && (plainByte (getD u (k + 2) 0) && plainByte (getD u (length u - 1) 0)))))) ≡ true
+    p₁ = and-right (leb 2 k) _ p
+
+    room : k + 3 ≤ length u
+    room = leb-true (k + 3) (length u) (and-left (leb (k + 3) (length u)) _ p₁)
+
+    p₂ : eqb (getD u (k - 1) 0) 32 && (eqb (getD u (k + 1) 0) 32 && (plainByte (getD u 0 0) && (plainByte (getD u (k - 2) 0) && (plainByte (getD u (k + 2) 0) && plainByte (getD u (length u - 1) 0))))) ≡ true
+    p₂ = and-right (leb (k + 3) (length u)) _ p₁
+
+    p₃ : eqb (getD u (k + 1) 0) 32 && (plainByte (getD u 0 0) && (plainByte (getD u (k - 2) 0) && (plainByte (getD u (k + 2) 0) && plainByte (getD u (length u - 1) 0)))) ≡ true
+    p₃ = and-right (eqb (getD u (k - 1) 0) 32) _ p₂
+
+    p₄ : plainByte (getD u 0 0) && (plainByte (getD u (k - 2) 0) && (plainByte (getD u (k + 2) 0) && plainByte (getD u (length u - 1) 0))) ≡ true
+    p₄ = and-right (eqb (getD u (k + 1) 0) 32) _ p₃
+
+    p₅ : plainByte (getD u (k - 2) 0) && (plainByte (getD u (k + 2) 0) && plainByte (getD u (length u - 1) 0)) ≡ true
+    p₅ = and-right (plainByte (getD u 0 0)) _ p₄
+
+    p₆ : plainByte (getD u (k + 2) 0) && plainByte (getD u (length u - 1) 0) ≡ true
+    p₆ = and-right (plainByte (getD u (k - 2) 0)) _ p₅
+
+    abbrev front : List ℕ
+    front = take k u
+
+    abbrev back : List ℕ
+    back = drop (k + 1) u
+
+    front-long : length front ≡ k
+    front-long = length-take-le k u (omega (arith, room))
+
+    front-at : (j m : ℕ) → j ≡ m → m < k → getD front j 0 ≡ getD u m 0
+    front-at j m z h = ap (λ (n : ℕ). getD front n 0) z ∙ getD-take k u m 0 h
+
+    back-at : (j m : ℕ) → k + 1 + j ≡ m → getD back j 0 ≡ getD u m 0
+    back-at j m z = getD-drop (k + 1) u j 0 ∙ ap (λ (n : ℕ). getD u n 0) z
+
+    dark : (x y : ℕ) → x ≡ y → plainByte y ≡ true → plainByte x ≡ true
+    dark x y z h = ap (λ (b : ℕ). plainByte b) z ∙ h
+
+    front-from : 0 ≡ fromOf front
+    front-from = starts-plain front (dark _ _ (front-at 0 0 refl (omega (arith, far))) (and-left (plainByte (getD u 0 0)) _ p₄))
+
+    front-to : k - 1 ≡ toEnd front
+    front-to =
+        let n = front-long in
+        let t : length front - 1 ≡ toOf front =
+        spaced-to front (omega (arith, far)) (front-at (length front - 1) (k - 1) (omega arith) (omega (arith, far)) ∙ eqb-true (getD u (k - 1) 0) 32 (and-left (eqb (getD u (k - 1) 0) 32) _ p₂))
+        (dark _ _ (front-at (length front - 2) (k - 2) (omega arith) (omega (arith, far))) (and-left (plainByte (getD u (k - 2) 0)) _ p₅)) in
+        let z : toEnd front ≡ 0 + toOf front = ap (λ (i : ℕ). i + toOf (drop i front)) (sym front-from) in
+        omega arith
+
+    back-long : length back ≡ length u - (k + 1)
+    back-long = length-drop (k + 1) u
+
+    back-two : 2 ≤ length back
+    back-two = omega (arith, back-long, room)
+
+    back-gap : getD back 0 0 ≡ 32
+    back-gap = back-at 0 (k + 1) (omega arith) ∙ eqb-true (getD u (k + 1) 0) 32 (and-left (eqb (getD u (k + 1) 0) 32) _ p₃)
+
+    back-first : plainByte (getD back 1 0) ≡ true
+    back-first = dark _ _ (back-at 1 (k + 2) (omega arith)) (and-left (plainByte (getD u (k + 2) 0)) _ p₆)
+
+    back-last : plainByte (getD back (length back - 1) 0) ≡ true
+    back-last = dark _ _ (back-at (length back - 1) (length u - 1) (omega (arith, back-long, room))) (and-right (plainByte (getD u (k + 2) 0)) _ p₆)
+
+    pub sides-room : (2 ≤ k) × (k + 3 ≤ length u)
+    sides-room = (far, room)
+
+    pub sides-plain : Split (record { left = record { from = 0; to = k - 1 }; right = record { from = k + 2; to = length u } }) ≡ sidesOf u
+    sides-plain =
+        let r = rest-of u (k + 1) in
+        let f : 1 ≡ fromOf (part (k + 1) (length u) u) = spaced-from back back-two back-gap back-first ∙ ap fromOf (sym r) in
+        let g : length back ≡ toEnd (part (k + 1) (length u) u) = sym (spaced-end back back-two back-gap back-first back-last) ∙ ap (λ (l : List ℕ). toEnd l) (sym r) in
+        let x : k + 2 ≡ k + 1 + 1 = omega arith in
+        let y : length u ≡ k + 1 + length back = omega (arith, back-long, room) in
+        ap (λ (i : ℕ). Split (record { left = spanned 0 (k - 1); right = spanned i (length u) })) x
+        ∙ ap (λ (i : ℕ). Split (record { left = spanned 0 (k - 1); right = spanned (k + 1 + 1) i })) y
+        ∙ sides-are (omega (arith, room)) (spanned 0 (k - 1)) (spanned 1 (length back)) front-from front-to f g
 
 pub assign-none : (t : List ℕ) → length t ≡ 0 → assignOf t ≡ None
 unfolding assignOf isAssign

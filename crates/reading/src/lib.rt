@@ -1,10 +1,12 @@
 // What a line reads and stores, and the two sides of an assignment.
 ghost use mathlib.Core.Path.{_≡_};
-ghost use Prim.Native.Nat.{_+_, _%_};
+ghost use Prim.Native.Nat.{_<_, _+_, _%_};
+ghost use lib.ListN.{length};
 ghost use Rattle.lines.specs.Lf.{part, linesOf};
+ghost use Rattle.parse.specs.Inner.Parse.{plainByte};
 ghost use Rattle.reading.specs.Reading.{strictAt, joinedAt};
 ghost use Rattle.reading.specs.Uses.{lineReads, storesBy, lineStores, lineUses, usedIn};
-ghost use Rattle.reading.specs.Inner.Assign.{sidesOf, assignOf};
+ghost use Rattle.reading.specs.Inner.Assign.{plainSides, sidesOf, assignOf};
 
 // How values and lines are read: 0 plain, 1 strict, 2 joined, 3 both.
 pub struct Mode(pub usize);
@@ -107,13 +109,48 @@ pub fn uses(text: &[u8], reg: names::Register) -> bool
     false
 }
 
-// The two sides of a text that ended in `;`, without it, split at its first `=`.
+// Whether a byte is one of ASCII above the space: it is no white space, nor part of one.
+fn is_dark(b: u8) -> bool
+    ensures { λ r. ⌜ r ≡ plainByte b ⌝ }
+{
+    (32 < b) & (b < 128)
+}
+
+// Whether one space stands on either side of the place k, and both sides are plainly trimmed then.
+fn plain_sides(u: &[u8], k: usize) -> bool
+    requires { ⌜ k < length (now u) ⌝ }
+    ensures { λ r. ⌜ r ≡ plainSides k (now (u .entry)) ⌝ }
+{
+    let n = u.len();
+    if k < 2 {
+        return false;
+    }
+    if n < k + 3 {
+        return false;
+    }
+    (u[k - 1] == b' ')
+        & ((u[k + 1] == b' ')
+            & (is_dark(u[0]) & (is_dark(u[k - 2]) & (is_dark(u[k + 2]) & is_dark(u[n - 1])))))
+}
+
+// The two sides of a text that ended in `;`, without it, split at its first `=`: most have one space on either side of it.
 fn sides_of(u: &[u8]) -> Assign
     ensures { λ r. ⌜ r ≡ sidesOf (now (u .entry)) ⌝ }
 {
     let k = lines::find_byte(u, 0, b'=');
     if k >= u.len() {
         return Assign::None;
+    }
+    if plain_sides(u, k) {
+        let before = text::Span { from: 0, to: k - 1 };
+        let behind = text::Span {
+            from: k + 2,
+            to: u.len(),
+        };
+        return Assign::Split(Sides {
+            left: before,
+            right: behind,
+        });
     }
     let b = k + 1;
     let left = text::trim_span(&u[..k]);

@@ -8,13 +8,13 @@ use native.Mathlib.Omega.{arith}
 use borrow.Author.Tests.{lt-ltb, le-ltb, ltb-true, ltb-false, eq-eqb, ne-eqb, eqb-true, eqb-false}
 use lib.Dec.{eqb, ltb}
 use lib.ListN.{length, take, drop, getD, set, replicate, drop-of-length-le, take-append-drop}
-use lib.Seq.{drop-cons}
+use lib.Seq.{drop-cons, getD-drop}
 use Rattle.lines.specs.Lf.{part, upTo, linesOf, partsOf, prefixed, same, endsIn}
 use Rattle.lines.proofs.Compare.{same-eq, same-refl}
 use Rattle.lines.proofs.Tests.{no, or-true, or-false, and-true, and-false, and-left}
 use Rattle.lines.proofs.LfLaws.{lines-at, lines-end, parts-at, parts-at-end, part-more, part-none}
 use Rattle.text.specs.Class.{isName}
-use Rattle.text.specs.Trim.{trimOf}
+use Rattle.text.specs.Trim.{fromOf, toOf, trimOf}
 use Rattle.names.specs.Names.{decimal, tempWord, readNumber, isTemp}
 use Rattle.names.specs.Inner.Names.{zeros}
 use Rattle.names.specs.declared.Number.{Number}
@@ -22,6 +22,7 @@ use Rattle.names.specs.declared.Number.the-variants as number
 use Rattle.names.proofs.Texts.{after-number, after-read}
 use Rattle.names.proofs.Decimal.{decimal-strip}
 use Rattle.parse.specs.Parse.{letWord, bodyOf, isLet}
+use Rattle.parse.proofs.PlainLine.{first-taken}
 use Rattle.place.specs.Region.{varWord, constWord}
 use Rattle.words.specs.Runs.{flush, runsGo, runs, countBy}
 use Rattle.words.specs.Inner.Runs.{wordsOf}
@@ -218,6 +219,19 @@ module _ (t : List ℕ) where
   pub let-long : isLet t ≡ true → 4 < length t
   unfolding isLet
   let-long e = ltb-true 4 (length t) (and-left (ltb 4 (length t)) (prefixed letWord t && endsIn 59 t) e)
+
+let-first : (t : List ℕ) → (getD t 0 0 ≡ 108 → ⊥) → isLet t ≡ false
+unfolding isLet prefixed
+let-first [] n = refl
+let-first (x ∷ xs) n = rw (ne-eqb 108 x (λ e. n (sym e))) (and-false (ltb 4 (length (x ∷ xs))))
+
+-- a line whose first byte that is no white space is no `l` is none
+pub let-other : (l : List ℕ) (a : ℕ) → a ≡ fromOf l → (getD l a 0 ≡ 108 → ⊥) → isLet (trimOf l) ≡ false
+unfolding trimOf
+let-other l a p n =
+    let r : List ℕ = drop (fromOf l) l in
+    let z : a ≡ fromOf l + 0 = omega arith in
+    let-first (trimOf l) (first-taken 108 (λ e. absurd (omega arith)) (toOf r) r (λ e. n (ap (λ (k : ℕ). getD l k 0) z ∙ sym (getD-drop (fromOf l) l 0 0) ∙ e)))
 
 module _ (own : List ℕ) where
   -- ---- a flag, at the key n of the temp x

@@ -4,6 +4,7 @@ ghost use mathlib.Core.Path.{_≡_};
 ghost use lib.ListN.{length, replicate};
 ghost use Rattle.parse.specs.Parse.{isLet};
 ghost use Rattle.lines.specs.Lf.{partsOf, linesOf};
+ghost use Rattle.text.specs.Trim.{trimOf};
 ghost use Rattle.words.specs.Runs.{runs};
 ghost use Rattle.names.specs.declared.Number.the-variants.{Of};
 ghost use Rattle.slots.specs.Inner.Slots.{withEntry};
@@ -210,6 +211,17 @@ fn flag_decl(t: &[u8], own: &[usize], table: &mut [u8])
     flag_pieces(lines::cut(t, 4, t.len() - 1), own, table);
 }
 
+// The same of a line: most do not begin with `l`.
+fn flag_line(line: &[u8], own: &[usize], table: &mut [u8])
+    ensures { λ _. ⌜ now (table .exit) ≡ flagDecl (now (own .entry)) (trimOf (now (line .entry))) (now (table .entry)) ⌝ }
+{
+    let a = text::trim_from(line);
+    if lines::byte_at(line, a) != b'l' {
+        return;
+    }
+    flag_decl(text::trim(line), own, table);
+}
+
 // Sets the flags of the names that some line of a text declares.
 pub fn flag_decls(text: &[u8], own: &[usize], table: &mut [u8])
     ensures { λ _. ⌜ now (table .exit) ≡ flagDecls (now (own .entry)) (linesOf (now (text .entry))) (now (table .entry)) ⌝ }
@@ -217,7 +229,7 @@ pub fn flag_decls(text: &[u8], own: &[usize], table: &mut [u8])
     let mut i = 0;
     while i < text.len() {
         let e = lines::find_byte(text, i, 10);
-        flag_decl(text::trim(lines::cut(text, i, e)), own, table);
+        flag_line(lines::cut(text, i, e), own, table);
         i = lines::after(text, e);
     }
 }
@@ -252,12 +264,12 @@ fn flag_runs(s: &[u8], own: &[usize], left: &[u8], k: bool, table: &mut [u8])
         if text::is_name_byte(s[i]) {
             i += 1;
         } else {
-            skip = flag_run(lines::cut(s, a, i), own, left, skip, table);
+            skip = flag_run(&s[a..i], own, left, skip, table);
             i += 1;
             a = i;
         }
     }
-    flag_run(lines::cut(s, a, i), own, left, skip, table);
+    flag_run(&s[a..i], own, left, skip, table);
 }
 
 // Sets the flags of the temps that a trimmed line reads.

@@ -657,11 +657,15 @@ pub fn trim_to(s: &[u8]) -> usize
     skip_back(s)
 }
 
-// The part of a text after the white space at its front.
+// The part of a text after the white space at its front: after its spaces, as `trim_from` says. A text of one byte is gone over by itself.
 pub fn trim_start(s: &[u8]) -> &[u8]
     ensures { λ r. ⌜ now r ≡ drop (fromOf (now (s .entry))) (now (s .entry)) ⌝ }
 {
-    let a = skip_front(s);
+    if s.len() < 2 {
+        let b = skip_front(s);
+        return &s[b..];
+    }
+    let a = trim_from(s);
     &s[a..]
 }
 

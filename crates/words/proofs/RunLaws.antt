@@ -5,7 +5,7 @@ use mathlib.Core.Bool.{Bool, true, false, cond, not, _&&_}
 use mathlib.Core.List.{List, [], _∷_, _++_, append-assoc, append-nil}
 use native.Mathlib.Numerals.{add-one}
 use native.Mathlib.Omega.{arith}
-use borrow.Author.Tests.{le-ltb, lt-ltb, eqb-true}
+use borrow.Author.Tests.{le-ltb, lt-ltb, eq-eqb, eqb-true}
 use lib.Dec.{eqb}
 use lib.ListN.{length, take, drop, getD, length-append, length-drop, drop-of-length-le}
 use lib.Seq.{drop-cons, drop-drop, length-take-le}
@@ -13,7 +13,7 @@ use Rattle.lines.specs.Lf.{part, same}
 use Rattle.lines.proofs.Tests.{no}
 use Rattle.text.specs.Class.{isName}
 use Rattle.names.specs.Names.{regOf, regIs, regText}
-use Rattle.names.proofs.Texts.{reg-text-is}
+use Rattle.names.proofs.Texts.{reg-first, reg-text-is}
 use Rattle.words.specs.Runs.{flush, runsGo, runs, countBy, readsOf}
 use Rattle.words.specs.Inner.Runs.{wordsOf, upBy, gapLen, runLen, regGap, afterName, walkRuns, placeBy, runHitsFrom, runHits, NextRun}
 
@@ -385,3 +385,46 @@ walk-count f (x ∷ xs) i cur = go (isName x) (walk-count f xs (suc i) (cur ++ (
 pub hits-count : (f : List ℕ → Bool) (l : List ℕ) → length (runHits f l) ≡ countBy f (runs l)
 unfolding runHits runs
 hits-count f l = walk-count f l 0 []
+
+-- ---- the loop that counts goes by the runs that begin with `r`, where no other passes
+
+reg-le : (p : Bool) (l : List ℕ) → regGap p l ≤ length l
+unfolding regGap
+reg-le p [] = omega arith
+reg-le p (x ∷ l) = go (eqb x 114 && not p) (reg-le (isName x) l)
+  where
+    go : (t : Bool) → regGap (isName x) l ≤ length l → cond t 0 (suc (regGap (isName x) l)) ≤ suc (length l)
+    go true h = omega arith
+    go false h = omega arith
+
+reg-inside : (s : List ℕ) (e j : ℕ) → e ≤ length s → j ≡ e + regGap false (drop e s) → j ≤ length s
+reg-inside s e j h q = omega (arith, reg-le false (drop e s), length-drop e s)
+
+module _ (f : List ℕ → Bool) (skips : (x : ℕ) (c : List ℕ) → eqb x 114 ≡ false → f (x ∷ c) ≡ false) (s : List ℕ) where
+  regs-skip : (e j : ℕ) → j ≡ e + regGap false (drop e s) → countBy f (runs (drop j s)) ≡ countBy f (runs (drop e s))
+  unfolding runs
+  regs-skip e j q = sym (walk-count f (drop j s) j []) ∙ ap length (sym (next-skip f skips s e e j q)) ∙ walk-count f (drop e s) e []
+
+  pub regs-start : (i : ℕ) → i ≡ 0 + regGap false (drop 0 s) → CountInv f s 0 i
+  regs-start i q = record {
+    i≤ = reg-inside s 0 i (omega arith) q;
+    n≤ = omega arith;
+    stands = reg-stands s 0 i q;
+    so-far = let z = regs-skip 0 i q in omega arith;
+  }
+
+  module _ {n i : ℕ} (h : CountInv f s n i) (l : i < length s) (e : ℕ) (p : e ≡ i + runLen (drop i s)) (w : List ℕ) (x : w ≡ part i e s) (t : Bool) (y : t ≡ f w) (m : ℕ) (z : m ≡ cond t 1 0) (j : ℕ) (q : j ≡ e + regGap false (drop e s)) where
+    pub regs-less : i < j
+    regs-less = omega (arith, run-some s i l (h .stands))
+
+    pub regs-next : CountInv f s (n + m) j
+    regs-next = record {
+      i≤ = reg-inside s e j (omega (arith, run-inside s i (h .i≤))) q;
+      n≤ = omega (arith, run-some s i l (h .stands), count-small f s h l e p w x t y m z, h .n≤);
+      stands = reg-stands s e j q;
+      so-far = omega (arith, regs-skip e j q, count-run f s h l e p, h .so-far, adds f s h l e p w x t y m z);
+    }
+
+-- a run that begins with another byte names no register
+pub names-skip : (v x : ℕ) (c : List ℕ) → eqb x 114 ≡ false → regIs v (regOf (x ∷ c)) ≡ false
+names-skip v x c e = ap (regIs v) (reg-first (x ∷ c) (λ z. no (sym e ∙ eq-eqb x 114 z)))

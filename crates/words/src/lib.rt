@@ -80,16 +80,16 @@ fn one_if(b: bool) -> usize
     if b { 1 } else { 0 }
 }
 
-// How often a text reads a register.
+// How often a text reads a register: the runs that begin with `r` are looked at.
 pub fn count_reg(s: &[u8], reg: names::Register) -> usize
     ensures { λ r. ⌜ r ≡ readsOf (reg .0) (now (s .entry)) ⌝ }
 {
     let mut n = 0;
-    let mut i = run_start(s, 0);
+    let mut i = reg_start(s, 0);
     while i < s.len() {
         let e = run_end(s, i);
         n += one_if(names::names_reg(&s[i..e], reg));
-        i = run_start(s, e);
+        i = reg_start(s, e);
     }
     n
 }

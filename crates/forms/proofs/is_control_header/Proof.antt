@@ -1,127 +1,53 @@
 -- `forms::is_control_header` meets its contract. Assumes nothing.
-use mathlib.Core.Path.{refl, _∙_}
+use mathlib.Core.Path.{sym, ap, _∙_}
+use mathlib.Core.Bool.{Bool, _||_}
 use mathlib.Core.List.{[], _∷_}
-use Rattle.forms.proofs.Ors.{ors}
-use Rattle.forms.specs.Control.{isControl}
+use Rattle.lines.specs.Ascii.{ascii}
+use Rattle.lines.specs.Lf.{holds}
+use Rattle.forms.proofs.Ors.{ors, control-is}
+use borrow.Author.Needs.{needs}
 use Rattle.forms.proofs.is_control_header.Statement.{statement}
 use Rattle.forms.proofs.is_control_header.Tie as tie
+use Rattle.forms.proofs.is_control_header.Reads as reads
+use Rattle.forms.proofs.is_control_header.Lts as lts
 
-slice-aggregate-starts-with : tie.Need-slice-aggregate-starts-with
-slice-aggregate-starts-with c = refl
-
-starts-with-requires : tie.Need-starts-with-requires
-starts-with-requires c κs = tt
-
-slice-aggregate-starts-with-2 : tie.Need-slice-aggregate-starts-with-2
-slice-aggregate-starts-with-2 c = refl
-
-starts-with-requires-2 : tie.Need-starts-with-requires-2
-starts-with-requires-2 c κs = tt
-
-slice-aggregate-starts-with-3 : tie.Need-slice-aggregate-starts-with-3
-slice-aggregate-starts-with-3 c = refl
-
-starts-with-requires-3 : tie.Need-starts-with-requires-3
-starts-with-requires-3 c κs = tt
-
-slice-aggregate-starts-with-4 : tie.Need-slice-aggregate-starts-with-4
-slice-aggregate-starts-with-4 c = refl
-
-starts-with-requires-4 : tie.Need-starts-with-requires-4
-starts-with-requires-4 c κs = tt
-
-slice-aggregate-starts-with-5 : tie.Need-slice-aggregate-starts-with-5
-slice-aggregate-starts-with-5 c = refl
-
-starts-with-requires-5 : tie.Need-starts-with-requires-5
-starts-with-requires-5 c κs = tt
-
-slice-aggregate-starts-with-6 : tie.Need-slice-aggregate-starts-with-6
-slice-aggregate-starts-with-6 c = refl
-
-starts-with-requires-6 : tie.Need-starts-with-requires-6
-starts-with-requires-6 c κs = tt
-
-slice-aggregate-starts-with-7 : tie.Need-slice-aggregate-starts-with-7
-slice-aggregate-starts-with-7 c = refl
-
-starts-with-requires-7 : tie.Need-starts-with-requires-7
-starts-with-requires-7 c κs = tt
-
-slice-aggregate-starts-with-8 : tie.Need-slice-aggregate-starts-with-8
-slice-aggregate-starts-with-8 c = refl
-
-starts-with-requires-8 : tie.Need-starts-with-requires-8
-starts-with-requires-8 c κs = tt
-
-slice-aggregate-starts-with-9 : tie.Need-slice-aggregate-starts-with-9
-slice-aggregate-starts-with-9 c = refl
-
-starts-with-requires-9 : tie.Need-starts-with-requires-9
-starts-with-requires-9 c κs = tt
-
-slice-aggregate-contains : tie.Need-slice-aggregate-contains
-slice-aggregate-contains c = refl
-
-contains-requires : tie.Need-contains-requires
-contains-requires c κs = tt
-
-slice-aggregate-contains-2 : tie.Need-slice-aggregate-contains-2
-slice-aggregate-contains-2 c = refl
-
-contains-requires-2 : tie.Need-contains-requires-2
-contains-requires-2 c κs = tt
-
-slice-aggregate-contains-3 : tie.Need-slice-aggregate-contains-3
-slice-aggregate-contains-3 c = refl
-
-contains-requires-3 : tie.Need-contains-requires-3
-contains-requires-3 c κs = tt
+begins-control-requires : tie.Need-begins-control-requires
+begins-control-requires c κs = search needs
 
 returns : tie.Need-returns
-unfolding isControl
-returns c =
-    let c11 = c .before .before in
-    let c10 = c11 .before .before in
-    let c9 = c10 .before .before in
-    let c8 = c9 .before .before in
-    let c7 = c8 .before .before in
-    let c6 = c7 .before .before in
-    let c5 = c6 .before .before in
-    let c4 = c5 .before .before in
-    let c3 = c4 .before .before in
-    let c2 = c3 .before .before in
-    let c1 = c2 .before .before in
-    ors (c1 .starts-with .result)
-    (c2 .starts-with2 .result ∷ c3 .starts-with3 .result ∷ c4 .starts-with4 .result ∷ c5 .starts-with5 .result ∷ c6 .starts-with6 .result ∷ c7 .starts-with7 .result ∷ c8 .starts-with8 .result ∷ c9 .starts-with9 .result ∷ c10 .contains .result ∷ c11 .contains2 .result ∷ c .contains3 .result ∷ [])
-    ∙ rw (c1 .starts-with .ensures, c2 .starts-with2 .ensures, c3 .starts-with3 .ensures, c4 .starts-with4 .ensures, c5 .starts-with5 .ensures, c6 .starts-with6 .ensures, c7 .starts-with7 .ensures, c8 .starts-with8 .ensures, c9 .starts-with9 .ensures, c10 .contains .ensures, c11 .contains2 .ensures, c .contains3 .ensures)
+returns c = sym (control-is (c .before .before .before .args .t .now) ∙ ap (λ (b : Bool). b || (holds (ascii ": while (") (c .before .before .before .args .t .now) || (holds (ascii ": for (") (c .before .before .before .args .t .now) || holds (ascii "} else if (") (c .before .before .before .args .t .now)))) (sym (c .before .begins-control .ensures) ∙ c .if1 .taken))
+
+slice-aggregate-contains : tie.Need-slice-aggregate-contains
+slice-aggregate-contains c = search needs
+
+contains-requires : tie.Need-contains-requires
+contains-requires c κs = search needs
+
+slice-aggregate-contains-2 : tie.Need-slice-aggregate-contains-2
+slice-aggregate-contains-2 c = search needs
+
+contains-requires-2 : tie.Need-contains-requires-2
+contains-requires-2 c κs = search needs
+
+slice-aggregate-contains-3 : tie.Need-slice-aggregate-contains-3
+slice-aggregate-contains-3 c = search needs
+
+contains-requires-3 : tie.Need-contains-requires-3
+contains-requires-3 c κs = search needs
+
+returns-2 : tie.Need-returns-2
+returns-2 c = ors (c .before .before .before .before .contains .result) (c .before .before .contains2 .result ∷ c .contains3 .result ∷ []) ∙ rw (c .before .before .before .before .contains .ensures, c .before .before .contains2 .ensures, c .contains3 .ensures) (sym (control-is (c .before .before .before .before .before .before .before .before .before .args .t .now) ∙ ap (λ (b : Bool). b || (holds (ascii ": while (") (c .before .before .before .before .before .before .before .before .before .args .t .now) || (holds (ascii ": for (") (c .before .before .before .before .before .before .before .before .before .args .t .now) || holds (ascii "} else if (") (c .before .before .before .before .before .before .before .before .before .args .t .now)))) (sym (c .before .before .before .before .before .before .before .begins-control .ensures) ∙ c .before .before .before .before .before .before .if1 .left)))
 
 pub is-control-header-spec : {M : Type 1} → statement M
 is-control-header-spec =
     tie.close
     (tie.spec
-    slice-aggregate-starts-with
-    starts-with-requires
-    slice-aggregate-starts-with-2
-    starts-with-requires-2
-    slice-aggregate-starts-with-3
-    starts-with-requires-3
-    slice-aggregate-starts-with-4
-    starts-with-requires-4
-    slice-aggregate-starts-with-5
-    starts-with-requires-5
-    slice-aggregate-starts-with-6
-    starts-with-requires-6
-    slice-aggregate-starts-with-7
-    starts-with-requires-7
-    slice-aggregate-starts-with-8
-    starts-with-requires-8
-    slice-aggregate-starts-with-9
-    starts-with-requires-9
+    begins-control-requires
+    returns
     slice-aggregate-contains
     contains-requires
     slice-aggregate-contains-2
     contains-requires-2
     slice-aggregate-contains-3
     contains-requires-3
-    returns)
+    returns-2)

@@ -1,43 +1,20 @@
+use mathlib.Core.Path.{sym, ap, _∙_}
+use mathlib.Core.Bool.{Bool, false, _||_}
+use Rattle.lines.specs.Ascii.{ascii}
+use Rattle.lines.specs.Lf.{suffixed}
+use Rattle.place.specs.Inner.Loops.{loopLabel}
+use Rattle.place.proofs.LoopTests.{loop-is}
 use borrow.Author.Needs.{needs}
-use Rattle.place.specs.Loops.{opensLoop}
 use Rattle.place.proofs.opens_loop.Statement.{statement}
 use Rattle.place.proofs.opens_loop.Tie as tie
 use Rattle.place.proofs.opens_loop.Reads as reads
 use Rattle.place.proofs.opens_loop.Lts as lts
-use Rattle.lines.proofs.contains.Reads as contains-reads
-use Rattle.lines.proofs.ends_with.Reads as ends-with-reads
-use Rattle.lines.proofs.same.Reads as same-reads
-use Rattle.lines.proofs.starts_with.Reads as starts-with-reads
 
-slice-aggregate-starts-with : tie.Need-slice-aggregate-starts-with
-slice-aggregate-starts-with c = search needs
+begins-loop-requires : tie.Need-begins-loop-requires
+begins-loop-requires c κs = search needs
 
-starts-with-requires : tie.Need-starts-with-requires
-starts-with-requires c κs = search needs
-
-slice-aggregate-starts-with-2 : tie.Need-slice-aggregate-starts-with-2
-slice-aggregate-starts-with-2 c = search needs
-
-starts-with-requires-2 : tie.Need-starts-with-requires-2
-starts-with-requires-2 c κs = search needs
-
-slice-aggregate-starts-with-3 : tie.Need-slice-aggregate-starts-with-3
-slice-aggregate-starts-with-3 c = search needs
-
-starts-with-requires-3 : tie.Need-starts-with-requires-3
-starts-with-requires-3 c κs = search needs
-
-slice-aggregate-starts-with-4 : tie.Need-slice-aggregate-starts-with-4
-slice-aggregate-starts-with-4 c = search needs
-
-starts-with-requires-4 : tie.Need-starts-with-requires-4
-starts-with-requires-4 c κs = search needs
-
-slice-aggregate-same : tie.Need-slice-aggregate-same
-slice-aggregate-same c = search needs
-
-same-requires : tie.Need-same-requires
-same-requires c κs = search needs
+returns : tie.Need-returns
+returns c = let t = c .before .before .before .args .t .now in sym (loop-is t ∙ ap (λ (b : Bool). b || (suffixed (ascii " do {") t || loopLabel t)) (sym (c .before .begins-loop .ensures) ∙ c .if1 .taken))
 
 slice-aggregate-ends-with : tie.Need-slice-aggregate-ends-with
 slice-aggregate-ends-with c = search needs
@@ -45,40 +22,23 @@ slice-aggregate-ends-with c = search needs
 ends-with-requires : tie.Need-ends-with-requires
 ends-with-requires c κs = search needs
 
-slice-aggregate-contains : tie.Need-slice-aggregate-contains
-slice-aggregate-contains c = search needs
+returns-2 : tie.Need-returns-2
+returns-2 c = let t = c .before .before .before .before .before .before .args .t .now in sym (loop-is t ∙ ap (λ (b : Bool). b || (suffixed (ascii " do {") t || loopLabel t)) (sym (c .before .before .before .before .begins-loop .ensures) ∙ c .before .before .before .if1 .left) ∙ ap (λ (b : Bool). b || loopLabel t) (sym (c .before .ends-with .ensures) ∙ c .if2 .taken))
 
-contains-requires : tie.Need-contains-requires
-contains-requires c κs = search needs
+labels-loop-requires : tie.Need-labels-loop-requires
+labels-loop-requires c κs = search needs
 
-slice-aggregate-contains-2 : tie.Need-slice-aggregate-contains-2
-slice-aggregate-contains-2 c = search needs
-
-contains-requires-2 : tie.Need-contains-requires-2
-contains-requires-2 c κs = search needs
-
-returns : tie.Need-returns
-unfolding opensLoop
-returns c = rw (c .before .before .before .before .before .before .before .before .before .before .before .before .before .before .starts-with .ensures, c .before .before .before .before .before .before .before .before .before .before .before .before .starts-with2 .ensures, c .before .before .before .before .before .before .before .before .before .before .starts-with3 .ensures, c .before .before .before .before .before .before .before .before .starts-with4 .ensures, c .before .before .before .before .before .before .same .ensures, c .before .before .before .before .ends-with .ensures, c .before .before .contains .ensures, c .contains2 .ensures)
+returns-3 : tie.Need-returns-3
+returns-3 c = let t = c .before .before .before .before .before .before .before .args .t .now in sym (loop-is t ∙ ap (λ (b : Bool). b || (suffixed (ascii " do {") t || loopLabel t)) (sym (c .before .before .before .before .before .begins-loop .ensures) ∙ c .before .before .before .before .if1 .left) ∙ ap (λ (b : Bool). b || loopLabel t) (sym (c .before .before .ends-with .ensures) ∙ c .before .if2 .left) ∙ sym (c .labels-loop .ensures))
 
 pub opens-loop-spec : {M : Type 1} → statement M
 opens-loop-spec =
     tie.close
     (tie.spec
-    slice-aggregate-starts-with
-    starts-with-requires
-    slice-aggregate-starts-with-2
-    starts-with-requires-2
-    slice-aggregate-starts-with-3
-    starts-with-requires-3
-    slice-aggregate-starts-with-4
-    starts-with-requires-4
-    slice-aggregate-same
-    same-requires
+    begins-loop-requires
+    returns
     slice-aggregate-ends-with
     ends-with-requires
-    slice-aggregate-contains
-    contains-requires
-    slice-aggregate-contains-2
-    contains-requires-2
-    returns)
+    returns-2
+    labels-loop-requires
+    returns-3)

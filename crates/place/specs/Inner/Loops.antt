@@ -3,11 +3,22 @@ use Prim.Native.Nat.{ℕ, suc, _-_}
 use Prim.Native.Char.{code}
 use mathlib.Core.Bool.{Bool, false, cond, _&&_, _||_}
 use mathlib.Core.List.{List, [], _∷_}
-use Rattle.lines.specs.Lf.{countOf, endsIn}
+use Rattle.lines.specs.Ascii.{ascii}
+use Rattle.lines.specs.Lf.{countOf, prefixed, same, holds, endsIn}
 use lib.Dec.{eqb, ltb}
 use Rattle.text.specs.Trim.{trimOf}
 use Rattle.place.specs.declared.Nest.{Nest}
 use Rattle.place.specs.Loops.{opensLoop}
+
+-- ---- a trimmed line that begins a loop
+
+-- by its front
+abbrev pub loopFront : List ℕ → Bool
+loopFront t = prefixed (ascii "while (") t || (prefixed (ascii "while(") t || (prefixed (ascii "for (") t || (prefixed (ascii "for(") t || same t (ascii "do {"))))
+
+-- behind a label
+abbrev pub loopLabel : List ℕ → Bool
+loopLabel t = holds (ascii ": while (") t || holds (ascii ": for (") t
 
 -- ---- the same by two numbers: how many blocks are open, and how many were when the outermost loop's was opened, or 0 where none is a loop's
 

@@ -6,7 +6,7 @@ use native.Mathlib.Omega.{arith}
 use borrow.Author.Needs.{needs}
 use lib.ListN.{length}
 use Rattle.names.specs.Names.{regOf, regIs}
-use Rattle.words.proofs.RunLaws.{run-inside, CountInv, count-start, count-small, count-less, count-next, count-end}
+use Rattle.words.proofs.RunLaws.{run-inside, CountInv, count-small, count-end, regs-start, regs-less, regs-next, names-skip}
 use Rattle.words.proofs.count_reg.Statement.{statement}
 use Rattle.words.proofs.count_reg.Tie as tie
 
@@ -16,11 +16,11 @@ Inv-loop s reg n₀ i₀ n i = CountInv (λ (r : List ℕ). regIs (reg .0) (regO
 abbrev μ-loop : tie.MeasureT-loop
 μ-loop s reg n₀ i₀ n i = length s - i
 
-run-start-requires : tie.Need-run-start-requires Inv-loop μ-loop
-run-start-requires c κs = search needs
+reg-start-requires : tie.Need-reg-start-requires Inv-loop μ-loop
+reg-start-requires c κs = search needs
 
 loop-holds : tie.Need-loop-holds Inv-loop μ-loop
-loop-holds c = let a = c .before .before .args in count-start (λ (r : List ℕ). regIs (a .reg .0) (regOf r)) (a .s .now) (c .run-start .result) (c .run-start .ensures)
+loop-holds c = let a = c .before .before .args in regs-start (λ (r : List ℕ). regIs (a .reg .0) (regOf r)) (names-skip (a .reg .0)) (a .s .now) (c .reg-start .result) (c .reg-start .ensures)
 
 run-end-requires : tie.Need-run-end-requires Inv-loop μ-loop
 run-end-requires c κs = search needs
@@ -47,21 +47,21 @@ add-n c =
     let k = count-small (λ (r : List ℕ). regIs (a .reg .0) (regOf r)) (a .s .now) (l .inv) (c .before .before .before .before .loop-test .taken) _ (c .before .before .before .run-end .ensures) _ refl _ (c .before .names-reg .ensures) _ (c .one-if .ensures) in
     omega (arith, k, l .inv .n≤, c .before .before .before .before .loop-test .taken)
 
-run-start-requires-2 : tie.Need-run-start-requires-2 Inv-loop μ-loop
-run-start-requires-2 c κs = search needs
+reg-start-requires-2 : tie.Need-reg-start-requires-2 Inv-loop μ-loop
+reg-start-requires-2 c κs = search needs
 
 loop-less : tie.Need-loop-less Inv-loop μ-loop
 loop-less c =
     let a = c .before .before .before .before .before .before .before .before .before .args in
     let l = c .before .before .before .before .before .before .loop in
-    let k = count-less (λ (r : List ℕ). regIs (a .reg .0) (regOf r)) (a .s .now) (l .inv) (c .before .before .before .before .before .loop-test .taken) _ (c .before .before .before .before .run-end .ensures) _ refl _ (c .before .before .names-reg .ensures) _ (c .before .one-if .ensures) _ (c .run-start2 .ensures) in
+    let k = regs-less (λ (r : List ℕ). regIs (a .reg .0) (regOf r)) (names-skip (a .reg .0)) (a .s .now) (l .inv) (c .before .before .before .before .before .loop-test .taken) _ (c .before .before .before .before .run-end .ensures) _ refl _ (c .before .before .names-reg .ensures) _ (c .before .one-if .ensures) _ (c .reg-start2 .ensures) in
     omega (arith, k, c .before .before .before .before .before .loop-test .taken)
 
 loop-again : tie.Need-loop-again Inv-loop μ-loop
 loop-again c =
     let a = c .before .before .before .before .before .before .before .before .before .args in
     let l = c .before .before .before .before .before .before .loop in
-    count-next (λ (r : List ℕ). regIs (a .reg .0) (regOf r)) (a .s .now) (l .inv) (c .before .before .before .before .before .loop-test .taken) _ (c .before .before .before .before .run-end .ensures) _ refl _ (c .before .before .names-reg .ensures) _ (c .before .one-if .ensures) _ (c .run-start2 .ensures)
+    regs-next (λ (r : List ℕ). regIs (a .reg .0) (regOf r)) (names-skip (a .reg .0)) (a .s .now) (l .inv) (c .before .before .before .before .before .loop-test .taken) _ (c .before .before .before .before .run-end .ensures) _ refl _ (c .before .before .names-reg .ensures) _ (c .before .one-if .ensures) _ (c .reg-start2 .ensures)
 
 returns : tie.Need-returns Inv-loop μ-loop
 returns c = let a = c .before .before .before .before .args in count-end (λ (r : List ℕ). regIs (a .reg .0) (regOf r)) (a .s .now) (c .before .loop .inv) (c .loop-test .left)
@@ -72,7 +72,7 @@ count-reg-spec =
     (tie.spec
     Inv-loop
     μ-loop
-    run-start-requires
+    reg-start-requires
     loop-holds
     run-end-requires
     sub-names-reg
@@ -81,7 +81,7 @@ count-reg-spec =
     names-reg-requires
     one-if-requires
     add-n
-    run-start-requires-2
+    reg-start-requires-2
     loop-less
     loop-again
     returns)

@@ -1,10 +1,12 @@
 -- `temps::table::flag_decls` meets its contract. Assumes nothing.
 use Prim.Native.Nat.{_-_}
+use mathlib.Core.Path.{refl}
 use native.Mathlib.Omega.{arith}
-use borrow.Author.Needs.{needs}
 use lib.ListN.{length}
+use Rattle.text.specs.Trim.{trimOf}
 use Rattle.temps.specs.Inner.Table.{flagDecls}
 use Rattle.temps.proofs.TableLaws.{FlagInv, flag-start, decls-on, decls-done}
+use borrow.Author.Needs.{needs}
 use Rattle.temps.proofs.table.flag_decls.Statement.{statement}
 use Rattle.temps.proofs.table.flag_decls.Tie as tie
 
@@ -23,20 +25,17 @@ find-byte-requires c κs = search needs
 cut-requires : tie.Need-cut-requires Inv-loop μ-loop
 cut-requires c κs = search needs
 
-trim-requires : tie.Need-trim-requires Inv-loop μ-loop
-trim-requires c κs = search needs
-
-flag-decl-requires : tie.Need-flag-decl-requires Inv-loop μ-loop
-flag-decl-requires c κs = search needs
+flag-line-requires : tie.Need-flag-line-requires Inv-loop μ-loop
+flag-line-requires c κs = search needs
 
 after-requires : tie.Need-after-requires Inv-loop μ-loop
 after-requires c κs = search needs
 
 loop-less : tie.Need-loop-less Inv-loop μ-loop
-loop-less c = omega (arith, c .after .ensures, c .before .before .before .before .before .before .before .find-byte .ensures, c .before .before .before .before .before .before .before .before .loop-test .taken)
+loop-less c = omega (arith, c .after .ensures, c .before .before .before .before .before .before .find-byte .ensures, c .before .before .before .before .before .before .before .loop-test .taken)
 
 loop-again : tie.Need-loop-again Inv-loop μ-loop
-loop-again c = decls-on _ (c .before .before .before .before .before .before .before .before .before .loop .inv) (c .before .before .before .before .before .before .before .find-byte .result) (c .after .result) (c .before .before .before .before .before .before .cut .result .now) (c .before .before .before .before .before .trim .result .now) _ (c .before .before .before .before .before .before .before .before .loop-test .taken) (c .before .before .before .before .before .before .before .find-byte .ensures) (c .before .before .before .before .before .before .cut .ensures) (c .before .before .before .before .before .trim .ensures .0) (c .before .before .before .flag-decl .ensures) (c .after .ensures)
+loop-again c = decls-on _ (c .before .before .before .before .before .before .before .before .loop .inv) (c .before .before .before .before .before .before .find-byte .result) (c .after .result) (c .before .before .before .before .before .cut .result .now) (trimOf (c .before .before .before .before .before .cut .result .now)) _ (c .before .before .before .before .before .before .before .loop-test .taken) (c .before .before .before .before .before .before .find-byte .ensures) (c .before .before .before .before .before .cut .ensures) refl (c .before .before .before .flag-line .ensures) (c .after .ensures)
 
 same-length : tie.Need-same-length Inv-loop μ-loop
 same-length c = c .before .loop .inv .long
@@ -53,8 +52,7 @@ flag-decls-spec =
     loop-holds
     find-byte-requires
     cut-requires
-    trim-requires
-    flag-decl-requires
+    flag-line-requires
     after-requires
     loop-less
     loop-again
