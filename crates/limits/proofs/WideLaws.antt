@@ -82,6 +82,24 @@ module _ (L : Limits) (F : Form) (k mode : ℕ) (short : Bool) (t xs : List ℕ)
 pub never-wide : (k mode : ℕ) (short : Bool) (t xs : List ℕ) (room have : ℕ) → numberOf (passAnswer small form.Ol k mode short t xs room have) ≡ 13 → ⊥
 never-wide k mode short t xs room have = eqb-false (numberOf (passAnswer small form.Ol k mode short t xs room have)) 13 (narrow small form.Ol k mode short t xs room have (never-small (length (splitLines t))))
 
+pub never-wide-whole : (mode : ℕ) (short : Bool) (t xs : List ℕ) (room have : ℕ) → numberOf (wholeAnswer small form.Ol mode short t xs room have) ≡ 13 → ⊥
+unfolding passAnswer
+never-wide-whole mode short t xs room have = never-wide 1 mode short t xs room have
+
 -- nor does an entry whose records are asked for in the form `OM`
 pub never-wide-om : (L : Limits) (k mode : ℕ) (short : Bool) (t xs : List ℕ) (room have : ℕ) → numberOf (passAnswer L form.Om k mode short t xs room have) ≡ 13 → ⊥
 never-wide-om L k mode short t xs room have = eqb-false (numberOf (passAnswer L form.Om k mode short t xs room have)) 13 (narrow L form.Om k mode short t xs room have (λ _. never-om (length (splitLines t))))
+
+pub never-wide-whole-om : (L : Limits) (mode : ℕ) (short : Bool) (t xs : List ℕ) (room have : ℕ) → numberOf (wholeAnswer L form.Om mode short t xs room have) ≡ 13 → ⊥
+unfolding passAnswer
+never-wide-whole-om L mode short t xs room have = never-wide-om L 1 mode short t xs room have
+
+-- ---- and who is
+
+-- a text in UTF-8 and within limits with more than 65,535 lines, where `OL` is asked for: whatever its brackets are, and whatever becomes of it
+pub wide-refused : (L : Limits) (mode : ℕ) (t xs : List ℕ) (room have : ℕ) → mode < modes → length t ≤ L .bytes → utf8Of t ≡ utf8-is.Valid → length (splitLines t) ≤ L .lines → 65535 < length (splitLines t) →
+    wholeAnswer L form.Ol mode false t xs room have ≡ WideLines
+unfolding wholeAnswer answerOf
+wide-refused L mode t xs room have m b u l w =
+    let fine : Answer = roomed (length xs) room (recordsNeed form.Ol t) have in
+    sym (mode-good mode {x = checked L form.Ol false t fine} m (lines-wide L form.Ol t fine l (lt-ltb 65535 (length (splitLines t)) w) ∙ text-read L form.Ol t fine false b refl {x = utf8-is.Valid} u))
