@@ -27,7 +27,7 @@ installed = bin/optlines bin/optview $(own)/optlines $(own)/optview $(own)/front
 	$(own)/run-built $(own)/VERSION $(own)/TOOLCHAIN share/man/man1/optlines.1 \
 	share/man/man1/optview.1 include/optlines.h lib/liboptlines.a \
 	lib/liboptlines.so.3 lib/liboptlines.so lib/pkgconfig/optlines.pc
-exported = optlines_optimize optlines_run_pass
+exported = optlines_optimize optlines_run_pass optlines_optimize_large optlines_run_pass_large
 maker = lib
 
 records_exported = optrecords_check optrecords_record optrecords_lines optrecords_to_ol \
