@@ -179,7 +179,7 @@
  *     13 is checked after 5 and before 6, and never answered for OM. It counts all lines of the
  *     text, also those that go.
  *
- *     A struct optlines_large_work has all buffers in it, 28,544,392 bytes: keep it static or
+ *     A struct optlines_large has all buffers in it, 28,544,392 bytes: keep it static or
  *     allocate it, and do not put it on a stack. What is said above of a struct optlines_work holds
  *     for it. Lent one by one there are eighteen work buffers:
  *
@@ -291,7 +291,7 @@
  *
  *     int main(void)
  *     {
- *         struct optlines_large_work *work = malloc(sizeof *work);
+ *         struct optlines_large *work = malloc(sizeof *work);
  *         size_t length = fread(text, 1, sizeof text, stdin);
  *         if (work == NULL || ferror(stdin))
  *             return 2;
@@ -473,7 +473,7 @@ struct optlines_work {
 };
 
 /* All that a call of optlines_tidy_large() writes. */
-struct optlines_large_work {
+struct optlines_large {
     uint8_t bytes[5][OPTLINES_LARGE_BYTES];
     uint8_t flags[2][OPTLINES_LARGE_PLACES];
     uint8_t line_flags[OPTLINES_LARGE_LINES];
@@ -574,7 +574,7 @@ static inline uint8_t optlines_tidy(
 }
 
 static inline uint8_t optlines_tidy_large(
-    struct optlines_large_work *w, size_t pass, size_t mode, size_t form,
+    struct optlines_large *w, size_t pass, size_t mode, size_t form,
     const uint8_t *text, size_t text_length)
 {
     const size_t n = OPTLINES_LARGE_BYTES, places = OPTLINES_LARGE_PLACES;

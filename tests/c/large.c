@@ -467,14 +467,14 @@ static void nulls(void)
     done("no text", q, 0);
 }
 
-static struct optlines_large_work work;
+static struct optlines_large work;
 
 /* Whether all that a call of optlines_tidy_large() writes is as it should be. */
 static void tidies(const char *name, struct call q, struct answer want, size_t count)
 {
     size_t told = optlines_record_size(q.form) * count;
     uint8_t after = want.number == OPTLINES_DONE ? 0 : FILLED;
-    size_t outs = offsetof(struct optlines_large_work, out);
+    size_t outs = offsetof(struct optlines_large, out);
     memset(&work, FILLED, sizeof work);
     calls++;
     if (optlines_tidy_large(&work, q.pass, q.mode, q.form, q.text, q.text_length) != want.number)

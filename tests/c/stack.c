@@ -31,7 +31,7 @@ enum { PASSES = 7, MODES = 4, LARGE = PASSES, PROBE, LONGEST = OPTLINES_LARGE_TE
 static uint8_t *stack; /* its lowest byte */
 static uint8_t paint[STRIDE];
 static struct optlines_work work;
-static struct optlines_large_work large_work;
+static struct optlines_large large_work;
 
 struct call {
     size_t pass, mode;
