@@ -499,9 +499,12 @@ static void tidies(const char *name, struct call q, struct answer want, size_t c
 
 static void in_one_struct(void)
 {
-    struct answer fine = { OPTLINES_DONE, TIDY, 0 }, long_text = { OPTLINES_TOO_LONG, 0, OPTLINES_LARGE_TEXT };
-    struct answer wide = { OPTLINES_WIDE_LINES, 0, OPTLINES_OL_LINES }, overlap = { OPTLINES_OVERLAP, 0, 0 };
+    struct answer fine = { OPTLINES_DONE, TIDY, 0 }, overlap = { OPTLINES_OVERLAP, 0, 0 };
+    struct answer long_text = { OPTLINES_TOO_LONG, 0, OPTLINES_LARGE_TEXT };
+    struct answer wide = { OPTLINES_WIDE_LINES, 0, OPTLINES_OL_LINES };
     struct answer full = { OPTLINES_DONE, OPTLINES_LARGE_LINES - 1, 0 };
+    if (sizeof work != 28544392)
+        fail("the struct", "another size than the header says");
     memcpy(result, tidy, TIDY);
     for (size_t form = 0; form < FORMS; form++) {
         tell_said(form, origins, 0, 0);
