@@ -2,66 +2,22 @@
 //! both forms of records, each pass and mode, every refusal that is its own, and the lent bytes
 //! after each call.
 
+mod common;
+
+use common::{bytes_of, kept, said, FILLED, ORIGINS, SAMPLE, SPARE, TIDY};
 use optlines::large::{
     optimize, optimize_in, record_bytes, records_in, run_pass, run_pass_in, Buffers, Form, Work,
 };
 use optlines::large::{BLOCKS, BYTES, LINES, NOTES, OL_LINES, OWNERS, PLACES, RECORDS, TEXT};
-use optlines::{Fate, Mode, Record, Refusal, BRACKETS, STACK};
+use optlines::{Mode, Record, Refusal, BRACKETS, STACK};
 use std::thread;
 
-const SAMPLE: &[u8] =
-    b"function f(a) {\n  let r0, r1, r2;\n  r0 = a;\n  r1 = g(r0);\n  return r1;\n}\n";
-const TIDY: &[u8] = b"function f(a) {\n  let r1 = g(a);\n  return r1;\n}\n";
-const ORIGINS: &str = "00 3- 21 11 02 03";
 const SAMPLE_LINES: usize = 6;
 const TIDY_LINES: usize = 4;
 
-const SPARE: usize = 8;
 const ROOM: usize = 2 * TEXT;
-const FILLED: u8 = 0xA5;
 const FORMS: [Form; 2] = [Form::Ol, Form::Om];
 const MODES: [Mode; 4] = [Mode::Plain, Mode::Strict, Mode::Joined, Mode::StrictJoined];
-
-/// The records that are said by the fate of each line and its line of the result, a digit or `-`
-/// for none, as in `00 3- 11`, from a line of the text and one of the result on.
-fn said(records: &str, line: usize, output: usize) -> Vec<Record> {
-    let fates = [Fate::Equal, Fate::Changed, Fate::Inside, Fate::Gone];
-    let digit = |c: u8| char::from(c).to_digit(10).map(|d| d as usize);
-    let each = records.split_whitespace().map(str::as_bytes).enumerate();
-    each.map(|(i, word)| Record {
-        line: line + i,
-        fate: fates[digit(word[0]).expect("a fate")],
-        output: digit(word[1]).map(|n| output + n),
-    })
-    .collect()
-}
-
-/// Each line is kept, with equal bytes.
-fn kept(lines: usize) -> Vec<Record> {
-    let record = |line| Record {
-        line,
-        fate: Fate::Equal,
-        output: Some(line),
-    };
-    (0..lines).map(record).collect()
-}
-
-/// The records as bytes of a form.
-fn bytes_of(form: Form, records: &[Record]) -> Vec<u8> {
-    let (mark, width) = match form {
-        Form::Ol => (b"OL", 2),
-        Form::Om => (b"OM", 4),
-    };
-    let mut bytes = Vec::new();
-    for record in records {
-        let low_first = |n: usize| n.to_le_bytes().into_iter().take(width);
-        bytes.extend(mark);
-        bytes.extend(low_first(record.line));
-        bytes.push(record.fate as u8);
-        bytes.extend(low_first(record.output.unwrap_or(usize::MAX)));
-    }
-    bytes
-}
 
 /// One call: which pass, 0 for all, mode, form and text, which work buffer, from 1, is lent one
 /// element short, and how much of the result buffer and of the record buffer is lent.
