@@ -4,6 +4,8 @@
  * NAME
  *     optlines_tidy - run all passes, or one, in buffers that are kept together
  *     optlines_optimize, optlines_run_pass - the same in buffers that are lent one by one
+ *     optlines_tidy_large - the same as optlines_tidy for larger texts
+ *     optlines_optimize_large, optlines_run_pass_large - and in buffers that are lent one by one
  *     optlines_lines, optlines_fate, optlines_line - the lines of a text, what a record says
  *
  * LINKING
@@ -147,6 +149,41 @@
  *     others it is damaged, or in another encoding. Nothing else is refused. A later release may
  *     have more numbers, so treat every number but 0 as a refusal.
  *
+ * LARGER TEXTS
+ *     optlines_tidy_large(), optlines_optimize_large() and optlines_run_pass_large() take texts of
+ *     up to OPTLINES_LARGE_TEXT bytes and OPTLINES_LARGE_LINES lines, and write records of the form
+ *     that the caller asks for:
+ *
+ *         0 OPTLINES_OL   the form above, with 2 bytes for each line
+ *         1 OPTLINES_OM   the mark `O` and `M`, and 4 bytes for each line, low byte first: a record
+ *                         has 11 bytes, and the line of a gone line is 4,294,967,295
+ *
+ *     Any number but 0 means OM. optlines_record() says how long a record of a form is,
+ *     optlines_fate_in() and optlines_line_in() what record i says.
+ *
+ *     They do the same as the others, and answer the same but for these: 2 and 5 with the larger
+ *     limits, and
+ *
+ *        13 OPTLINES_WIDE_LINES      the form is OL, and text has more     65535
+ *                                    than 65,535 lines (just after 5)
+ *
+ *     8 counts 7 or 11 bytes for each line, by the form. 3 is said where any of the eighteen
+ *     work buffers is shorter than stated:
+ *
+ *         a to e        bytes              OPTLINES_LARGE_BYTES
+ *         f, g          bytes              OPTLINES_LARGE_PLACES
+ *         h             bytes              OPTLINES_LARGE_LINES
+ *         u             32-bit numbers     OPTLINES_LARGE_BLOCKS
+ *         v, w, x       32-bit numbers     OPTLINES_LARGE_NOTES
+ *         p, q, table   size_t             OPTLINES_LARGE_LINES
+ *         r, t          size_t             OPTLINES_LARGE_PLACES
+ *         own           size_t             OPTLINES_LARGE_OWNERS
+ *
+ *     After 0, 7 and 8 so much of each is 0, and the rest as before; after any other number all of
+ *     it is as before. A struct optlines_large has all of these, the result buffer and the record
+ *     buffer, some 32 MB: keep it static or allocate it. Everything said of struct optlines_work
+ *     holds for it.
+ *
  * MEMORY AFTER A CALL
  *         number   out, orig                                  a to e, u
  *         0        the result, the records, and behind each   0 in the first OPTLINES_BYTES or
@@ -155,10 +192,11 @@
  *         others   as before                                  as before
  *
  * WHAT IS PROVED
- *     The answer and every lent byte of optlines_optimize and optlines_run_pass, as above, for all
- *     arguments that meet what is said under BUFFERS LENT ONE BY ONE: the contracts of crate capi
- *     (docs/CONTRACTS.md). This file, and with it each inline function, is not part of the proof;
- *     tests/bindings calls what it declares, from C and C++.
+ *     The answer and every lent byte of optlines_optimize, optlines_run_pass,
+ *     optlines_optimize_large and optlines_run_pass_large, as above, for all arguments that meet
+ *     what is said under BUFFERS LENT ONE BY ONE: the contracts of crate capi (docs/CONTRACTS.md).
+ *     This file, and with it each inline function, is not part of the proof; tests/bindings calls
+ *     what it declares, from C and C++.
  *
  * EXAMPLE
  *     #include <optlines.h>
@@ -254,6 +292,20 @@ extern "C" {
 #define OPTLINES_RECORDS 7168
 #define OPTLINES_NO_LINE 65535
 
+/* Of the functions for larger texts: the limits, and the stated sizes of the work buffers. */
+#define OPTLINES_LARGE_TEXT 1048576
+#define OPTLINES_LARGE_LINES 100000
+#define OPTLINES_LARGE_BYTES 2097153
+#define OPTLINES_LARGE_BLOCKS 1048576
+#define OPTLINES_LARGE_NOTES 200000
+#define OPTLINES_LARGE_OWNERS 131071
+#define OPTLINES_LARGE_PLACES 262143
+#define OPTLINES_LARGE_RECORDS 1100000
+
+/* The forms of records. */
+#define OPTLINES_OL 0
+#define OPTLINES_OM 1
+
 /* The modes. */
 #define OPTLINES_PLAIN 0
 #define OPTLINES_STRICT 1
@@ -278,6 +330,7 @@ enum {
     OPTLINES_OVERLONG = 10,
     OPTLINES_OUTSIDE = 11,
     OPTLINES_BAD_MODE = 12,
+    OPTLINES_WIDE_LINES = 13,
     OPTLINES_OVERLAP = 255
 };
 
@@ -315,12 +368,80 @@ uint8_t optlines_run_pass(
     uint8_t *orig, size_t orig_length,
     size_t *length, size_t *place);
 
+uint8_t optlines_optimize_large(
+    size_t mode, size_t form,
+    const uint8_t *text, size_t text_length,
+    uint8_t *a, size_t a_length,
+    uint8_t *b, size_t b_length,
+    uint8_t *c, size_t c_length,
+    uint8_t *d, size_t d_length,
+    uint8_t *e, size_t e_length,
+    uint8_t *f, size_t f_length,
+    uint8_t *g, size_t g_length,
+    uint8_t *h, size_t h_length,
+    uint32_t *u, size_t u_length,
+    uint32_t *v, size_t v_length,
+    uint32_t *w, size_t w_length,
+    uint32_t *x, size_t x_length,
+    size_t *p, size_t p_length,
+    size_t *q, size_t q_length,
+    size_t *r, size_t r_length,
+    size_t *t, size_t t_length,
+    size_t *own, size_t own_length,
+    size_t *table, size_t table_length,
+    uint8_t *out, size_t out_length,
+    uint8_t *orig, size_t orig_length,
+    size_t *length, size_t *place);
+
+uint8_t optlines_run_pass_large(
+    size_t pass, size_t mode, size_t form,
+    const uint8_t *text, size_t text_length,
+    uint8_t *a, size_t a_length,
+    uint8_t *b, size_t b_length,
+    uint8_t *c, size_t c_length,
+    uint8_t *d, size_t d_length,
+    uint8_t *e, size_t e_length,
+    uint8_t *f, size_t f_length,
+    uint8_t *g, size_t g_length,
+    uint8_t *h, size_t h_length,
+    uint32_t *u, size_t u_length,
+    uint32_t *v, size_t v_length,
+    uint32_t *w, size_t w_length,
+    uint32_t *x, size_t x_length,
+    size_t *p, size_t p_length,
+    size_t *q, size_t q_length,
+    size_t *r, size_t r_length,
+    size_t *t, size_t t_length,
+    size_t *own, size_t own_length,
+    size_t *table, size_t table_length,
+    uint8_t *out, size_t out_length,
+    uint8_t *orig, size_t orig_length,
+    size_t *length, size_t *place);
+
 /* All that a call of optlines_tidy() writes. */
 struct optlines_work {
     uint8_t bytes[5][OPTLINES_BYTES];
     uint32_t blocks[OPTLINES_BLOCKS];
     uint8_t out[2 * OPTLINES_TEXT];
     uint8_t orig[OPTLINES_RECORDS];
+    size_t length;
+    size_t records;
+    size_t place;
+};
+
+/* All that a call of optlines_tidy_large() writes. */
+struct optlines_large {
+    uint8_t bytes[5][OPTLINES_LARGE_BYTES];
+    uint8_t flags[2][OPTLINES_LARGE_PLACES];
+    uint8_t line_flags[OPTLINES_LARGE_LINES];
+    uint32_t blocks[OPTLINES_LARGE_BLOCKS];
+    uint32_t notes[3][OPTLINES_LARGE_NOTES];
+    size_t lines[2][OPTLINES_LARGE_LINES];
+    size_t places[2][OPTLINES_LARGE_PLACES];
+    size_t owners[OPTLINES_LARGE_OWNERS];
+    size_t table[OPTLINES_LARGE_LINES];
+    uint8_t out[2 * OPTLINES_LARGE_TEXT];
+    uint8_t orig[OPTLINES_LARGE_RECORDS];
     size_t length;
     size_t records;
     size_t place;
@@ -348,14 +469,43 @@ static inline size_t optlines_line(const uint8_t *orig, size_t i)
     return line[0] | (size_t)line[1] << 8;
 }
 
-/* Whether a text and *work have a byte in common. */
-static inline int optlines_overlap(
-    const struct optlines_work *work, const uint8_t *text, size_t text_length)
+/* The bytes of a record of a form. */
+static inline size_t optlines_record(size_t form)
+{
+    return form == OPTLINES_OL ? OPTLINES_RECORD : OPTLINES_RECORD + 4;
+}
+
+/* The fate that record i of a record buffer of a form tells. */
+static inline uint8_t optlines_fate_in(size_t form, const uint8_t *orig, size_t i)
+{
+    return orig[optlines_record(form) * i + (form == OPTLINES_OL ? 4 : 6)];
+}
+
+/* The line of the result that record i of a record buffer of a form tells. */
+static inline size_t optlines_line_in(size_t form, const uint8_t *orig, size_t i)
+{
+    size_t width = form == OPTLINES_OL ? 2 : 4, line = 0;
+    const uint8_t *end = orig + optlines_record(form) * (i + 1);
+    for (size_t k = 1; k <= width; k++)
+        line = line << 8 | end[-(ptrdiff_t)k];
+    return line;
+}
+
+/* Whether a text and the bytes from a place on have one in common. */
+static inline int optlines_common(
+    const void *work, size_t size, const uint8_t *text, size_t text_length)
 {
     uintptr_t from = (uintptr_t)work, at = (uintptr_t)text;
     if (text_length == 0)
         return 0;
-    return at < from ? from - at < text_length : at - from < sizeof *work;
+    return at < from ? from - at < text_length : at - from < size;
+}
+
+/* Whether a text and *work have a byte in common. */
+static inline int optlines_overlap(
+    const struct optlines_work *work, const uint8_t *text, size_t text_length)
+{
+    return optlines_common(work, sizeof *work, text, text_length);
 }
 
 static inline uint8_t optlines_tidy(
@@ -378,6 +528,39 @@ static inline uint8_t optlines_tidy(
             &work->length, &work->place);
     if (number == OPTLINES_DONE)
         work->records = optlines_lines(text, text_length);
+    return number;
+}
+
+static inline uint8_t optlines_tidy_large(
+    struct optlines_large *w, size_t pass, size_t mode, size_t form,
+    const uint8_t *text, size_t text_length)
+{
+    const size_t n = OPTLINES_LARGE_BYTES, places = OPTLINES_LARGE_PLACES;
+    const size_t lines = OPTLINES_LARGE_LINES, notes = OPTLINES_LARGE_NOTES;
+    uint8_t number;
+    w->length = w->records = w->place = 0;
+    if (optlines_common(w, sizeof *w, text, text_length))
+        return OPTLINES_OVERLAP;
+    if (pass == 0)
+        number = optlines_optimize_large(mode, form, text, text_length,
+            w->bytes[0], n, w->bytes[1], n, w->bytes[2], n, w->bytes[3], n, w->bytes[4], n,
+            w->flags[0], places, w->flags[1], places, w->line_flags, lines,
+            w->blocks, OPTLINES_LARGE_BLOCKS,
+            w->notes[0], notes, w->notes[1], notes, w->notes[2], notes,
+            w->lines[0], lines, w->lines[1], lines, w->places[0], places, w->places[1], places,
+            w->owners, OPTLINES_LARGE_OWNERS, w->table, lines,
+            w->out, sizeof w->out, w->orig, sizeof w->orig, &w->length, &w->place);
+    else
+        number = optlines_run_pass_large(pass, mode, form, text, text_length,
+            w->bytes[0], n, w->bytes[1], n, w->bytes[2], n, w->bytes[3], n, w->bytes[4], n,
+            w->flags[0], places, w->flags[1], places, w->line_flags, lines,
+            w->blocks, OPTLINES_LARGE_BLOCKS,
+            w->notes[0], notes, w->notes[1], notes, w->notes[2], notes,
+            w->lines[0], lines, w->lines[1], lines, w->places[0], places, w->places[1], places,
+            w->owners, OPTLINES_LARGE_OWNERS, w->table, lines,
+            w->out, sizeof w->out, w->orig, sizeof w->orig, &w->length, &w->place);
+    if (number == OPTLINES_DONE)
+        w->records = optlines_lines(text, text_length);
     return number;
 }
 

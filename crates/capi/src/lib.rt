@@ -1,6 +1,6 @@
 // The entries for C and Rust: include/optlines.h declares them.
 ghost use mathlib.Core.Path.{_≡_};
-ghost use Rattle.origins.specs.declared.Form.the-variants as form;
+ghost use Rattle.origins.specs.declared.Form.the-variants as form-is;
 ghost use Rattle.limits.specs.Answer.{numberOf, lengthOf, placeOf};
 ghost use Rattle.limits.specs.Entry.{small, large, outAfter};
 ghost use Rattle.opt.specs.Room.{After, AfterLarge};
@@ -27,7 +27,7 @@ pub extern "C" fn optlines_optimize(
     ensures size { λ _. ⌜ now (size .exit) ≡ lengthOf (tidyAnswer mode (now (text .entry)) (now (a .entry)) (now (b .entry)) (now (c .entry)) (now (d .entry)) (now (e .entry)) (now (u .entry)) (now (out .entry)) (now (orig .entry))) ⌝ }
     ensures place { λ _. ⌜ now (place .exit) ≡ placeOf (tidyAnswer mode (now (text .entry)) (now (a .entry)) (now (b .entry)) (now (c .entry)) (now (d .entry)) (now (e .entry)) (now (u .entry)) (now (out .entry)) (now (orig .entry))) ⌝ }
     ensures result { λ _. ⌜ now (out .exit) ≡ outAfter (tidyAnswer mode (now (text .entry)) (now (a .entry)) (now (b .entry)) (now (c .entry)) (now (d .entry)) (now (e .entry)) (now (u .entry)) (now (out .entry)) (now (orig .entry))) (tidied mode (now (text .entry))) (now (out .entry)) ⌝ }
-    ensures records { λ _. ⌜ now (orig .exit) ≡ outAfter (tidyAnswer mode (now (text .entry)) (now (a .entry)) (now (b .entry)) (now (c .entry)) (now (d .entry)) (now (e .entry)) (now (u .entry)) (now (out .entry)) (now (orig .entry))) (tidiedOrigins form.Ol mode (now (text .entry))) (now (orig .entry)) ⌝ }
+    ensures records { λ _. ⌜ now (orig .exit) ≡ outAfter (tidyAnswer mode (now (text .entry)) (now (a .entry)) (now (b .entry)) (now (c .entry)) (now (d .entry)) (now (e .entry)) (now (u .entry)) (now (out .entry)) (now (orig .entry))) (tidiedOrigins form-is.Ol mode (now (text .entry))) (now (orig .entry)) ⌝ }
     ensures work { λ _. ⌜ After small (tidyAnswer mode (now (text .entry)) (now (a .entry)) (now (b .entry)) (now (c .entry)) (now (d .entry)) (now (e .entry)) (now (u .entry)) (now (out .entry)) (now (orig .entry))) (now (a .entry)) (now (b .entry)) (now (c .entry)) (now (d .entry)) (now (e .entry)) (now (u .entry)) (now (a .exit)) (now (b .exit)) (now (c .exit)) (now (d .exit)) (now (e .exit)) (now (u .exit)) ⌝ }
 {
     let answer = opt::optimize(mode, text, a, b, c, d, e, u, out, orig);
@@ -57,7 +57,7 @@ pub extern "C" fn optlines_run_pass(
     ensures size { λ _. ⌜ now (size .exit) ≡ lengthOf (onePassAnswer pass mode (now (text .entry)) (now (a .entry)) (now (b .entry)) (now (c .entry)) (now (d .entry)) (now (e .entry)) (now (u .entry)) (now (out .entry)) (now (orig .entry))) ⌝ }
     ensures place { λ _. ⌜ now (place .exit) ≡ placeOf (onePassAnswer pass mode (now (text .entry)) (now (a .entry)) (now (b .entry)) (now (c .entry)) (now (d .entry)) (now (e .entry)) (now (u .entry)) (now (out .entry)) (now (orig .entry))) ⌝ }
     ensures result { λ _. ⌜ now (out .exit) ≡ outAfter (onePassAnswer pass mode (now (text .entry)) (now (a .entry)) (now (b .entry)) (now (c .entry)) (now (d .entry)) (now (e .entry)) (now (u .entry)) (now (out .entry)) (now (orig .entry))) (passed pass mode (now (text .entry))) (now (out .entry)) ⌝ }
-    ensures records { λ _. ⌜ now (orig .exit) ≡ outAfter (onePassAnswer pass mode (now (text .entry)) (now (a .entry)) (now (b .entry)) (now (c .entry)) (now (d .entry)) (now (e .entry)) (now (u .entry)) (now (out .entry)) (now (orig .entry))) (passedOrigins form.Ol pass mode (now (text .entry))) (now (orig .entry)) ⌝ }
+    ensures records { λ _. ⌜ now (orig .exit) ≡ outAfter (onePassAnswer pass mode (now (text .entry)) (now (a .entry)) (now (b .entry)) (now (c .entry)) (now (d .entry)) (now (e .entry)) (now (u .entry)) (now (out .entry)) (now (orig .entry))) (passedOrigins form-is.Ol pass mode (now (text .entry))) (now (orig .entry)) ⌝ }
     ensures work { λ _. ⌜ After small (onePassAnswer pass mode (now (text .entry)) (now (a .entry)) (now (b .entry)) (now (c .entry)) (now (d .entry)) (now (e .entry)) (now (u .entry)) (now (out .entry)) (now (orig .entry))) (now (a .entry)) (now (b .entry)) (now (c .entry)) (now (d .entry)) (now (e .entry)) (now (u .entry)) (now (a .exit)) (now (b .exit)) (now (c .exit)) (now (d .exit)) (now (e .exit)) (now (u .exit)) ⌝ }
 {
     let answer = opt::run_pass(pass, mode, text, a, b, c, d, e, u, out, orig);

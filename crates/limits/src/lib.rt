@@ -278,7 +278,8 @@ pub fn refused_task(m: Task, text: &[u8], short: bool) -> Answer
     if m.mode.0 >= MODES {
         return Answer::BadMode;
     }
-    refused(m.limits, m.form, text, short)
+    let form = m.form;
+    refused(m.limits, form, text, short)
 }
 
 // Joins the lines of `lf` into the result buffer, where it is long enough, and the `have` bytes lent for records are the `need` bytes that they take.

@@ -3,9 +3,9 @@ ghost use mathlib.Core.Path.{_≡_};
 ghost use Prim.Native.Nat.{_≤_, _-_};
 ghost use lib.ListN.{length};
 ghost use Rattle.lines.specs.Lf.{within};
-ghost use Rattle.origins.specs.declared.Form.the-variants as form;
+ghost use Rattle.origins.specs.declared.Form.the-variants as form-is;
 ghost use Rattle.reading.specs.Reading.{readingOf};
-ghost use mathlib.Core.Bool.{_||_};
+ghost use mathlib.Core.Bool.{false, _||_};
 ghost use Rattle.limits.specs.Entry.{small, large, isShort, tablesShort, recordsNeed, roomed, wholeAnswer, passAnswer, outAfter};
 ghost use Rattle.limits.specs.Inner.Sane.{Sane, Within};
 ghost use Rattle.steps.specs.Step.{stepOf, stepFates};
@@ -195,10 +195,10 @@ fn tidy_small(
     out: &mut [u8],
     orig: &mut [u8],
 ) -> limits::Answer
-    ensures answer { λ r. ⌜ r ≡ wholeAnswer small form.Ol mode (isShort small (length (now (a .entry))) (length (now (b .entry))) (length (now (c .entry))) (length (now (d .entry))) (length (now (e .entry))) (length (now (u .entry)))) (now (text .entry)) (resultOf (stepsOf (readingOf mode) from (to - from)) (now (text .entry))) (length (now (out .entry))) (length (now (orig .entry))) ⌝ }
+    ensures answer { λ r. ⌜ r ≡ wholeAnswer small form-is.Ol mode (isShort small (length (now (a .entry))) (length (now (b .entry))) (length (now (c .entry))) (length (now (d .entry))) (length (now (e .entry))) (length (now (u .entry)))) (now (text .entry)) (resultOf (stepsOf (readingOf mode) from (to - from)) (now (text .entry))) (length (now (out .entry))) (length (now (orig .entry))) ⌝ }
     ensures memory { λ r. ⌜ (now (out .exit) ≡ outAfter r (resultOf (stepsOf (readingOf mode) from (to - from)) (now (text .entry))) (now (out .entry)))
         × After small r (now (a .entry)) (now (b .entry)) (now (c .entry)) (now (d .entry)) (now (e .entry)) (now (u .entry)) (now (a .exit)) (now (b .exit)) (now (c .exit)) (now (d .exit)) (now (e .exit)) (now (u .exit)) ⌝ }
-    ensures records { λ r. ⌜ now (orig .exit) ≡ outAfter r (originsOf form.Ol (stepsOf (readingOf mode) from (to - from)) (stepsFates (readingOf mode) from (to - from)) (now (text .entry))) (now (orig .entry)) ⌝ }
+    ensures records { λ r. ⌜ now (orig .exit) ≡ outAfter r (originsOf form-is.Ol (stepsOf (readingOf mode) from (to - from)) (stepsFates (readingOf mode) from (to - from)) (now (text .entry))) (now (orig .entry)) ⌝ }
 {
     let mut f = [0u8; PLACES];
     let mut g = [0u8; PLACES];
@@ -253,10 +253,10 @@ pub fn optimize(
     out: &mut [u8],
     orig: &mut [u8],
 ) -> limits::Answer
-    ensures answer { λ r. ⌜ r ≡ wholeAnswer small form.Ol mode (isShort small (length (now (a .entry))) (length (now (b .entry))) (length (now (c .entry))) (length (now (d .entry))) (length (now (e .entry))) (length (now (u .entry)))) (now (text .entry)) (resultOf (whole (readingOf mode)) (now (text .entry))) (length (now (out .entry))) (length (now (orig .entry))) ⌝ }
+    ensures answer { λ r. ⌜ r ≡ wholeAnswer small form-is.Ol mode (isShort small (length (now (a .entry))) (length (now (b .entry))) (length (now (c .entry))) (length (now (d .entry))) (length (now (e .entry))) (length (now (u .entry)))) (now (text .entry)) (resultOf (whole (readingOf mode)) (now (text .entry))) (length (now (out .entry))) (length (now (orig .entry))) ⌝ }
     ensures memory { λ r. ⌜ (now (out .exit) ≡ outAfter r (resultOf (whole (readingOf mode)) (now (text .entry))) (now (out .entry)))
         × After small r (now (a .entry)) (now (b .entry)) (now (c .entry)) (now (d .entry)) (now (e .entry)) (now (u .entry)) (now (a .exit)) (now (b .exit)) (now (c .exit)) (now (d .exit)) (now (e .exit)) (now (u .exit)) ⌝ }
-    ensures records { λ r. ⌜ now (orig .exit) ≡ outAfter r (originsOf form.Ol (whole (readingOf mode)) (wholeFates (readingOf mode)) (now (text .entry))) (now (orig .entry)) ⌝ }
+    ensures records { λ r. ⌜ now (orig .exit) ≡ outAfter r (originsOf form-is.Ol (whole (readingOf mode)) (wholeFates (readingOf mode)) (now (text .entry))) (now (orig .entry)) ⌝ }
 {
     tidy_small(0, 7, mode, text, a, b, c, d, e, u, out, orig)
 }
@@ -282,10 +282,10 @@ pub fn run_pass(
     out: &mut [u8],
     orig: &mut [u8],
 ) -> limits::Answer
-    ensures answer { λ r. ⌜ r ≡ passAnswer small form.Ol pass mode (isShort small (length (now (a .entry))) (length (now (b .entry))) (length (now (c .entry))) (length (now (d .entry))) (length (now (e .entry))) (length (now (u .entry)))) (now (text .entry)) (resultOf (stepOf (readingOf mode) pass) (now (text .entry))) (length (now (out .entry))) (length (now (orig .entry))) ⌝ }
+    ensures answer { λ r. ⌜ r ≡ passAnswer small form-is.Ol pass mode (isShort small (length (now (a .entry))) (length (now (b .entry))) (length (now (c .entry))) (length (now (d .entry))) (length (now (e .entry))) (length (now (u .entry)))) (now (text .entry)) (resultOf (stepOf (readingOf mode) pass) (now (text .entry))) (length (now (out .entry))) (length (now (orig .entry))) ⌝ }
     ensures memory { λ r. ⌜ (now (out .exit) ≡ outAfter r (resultOf (stepOf (readingOf mode) pass) (now (text .entry))) (now (out .entry)))
         × After small r (now (a .entry)) (now (b .entry)) (now (c .entry)) (now (d .entry)) (now (e .entry)) (now (u .entry)) (now (a .exit)) (now (b .exit)) (now (c .exit)) (now (d .exit)) (now (e .exit)) (now (u .exit)) ⌝ }
-    ensures records { λ r. ⌜ now (orig .exit) ≡ outAfter r (originsOf form.Ol (stepOf (readingOf mode) pass) (stepFates (readingOf mode) pass) (now (text .entry))) (now (orig .entry)) ⌝ }
+    ensures records { λ r. ⌜ now (orig .exit) ≡ outAfter r (originsOf form-is.Ol (stepOf (readingOf mode) pass) (stepFates (readingOf mode) pass) (now (text .entry))) (now (orig .entry)) ⌝ }
 {
     if !is_pass(pass) {
         return limits::Answer::BadPass;
@@ -308,17 +308,20 @@ pub fn run_stages(
     out: &mut [u8],
     orig: &mut [u8],
 ) -> limits::Answer
-    ensures answer { λ r. ⌜ r ≡ wholeAnswer small form.Ol mode (isShort small (length (now (a .entry))) (length (now (b .entry))) (length (now (c .entry))) (length (now (d .entry))) (length (now (e .entry))) (length (now (u .entry)))) (now (text .entry)) (resultOf (stepsOf (readingOf mode) 0 n) (now (text .entry))) (length (now (out .entry))) (length (now (orig .entry))) ⌝ }
+    ensures answer { λ r. ⌜ r ≡ wholeAnswer small form-is.Ol mode (isShort small (length (now (a .entry))) (length (now (b .entry))) (length (now (c .entry))) (length (now (d .entry))) (length (now (e .entry))) (length (now (u .entry)))) (now (text .entry)) (resultOf (stepsOf (readingOf mode) 0 n) (now (text .entry))) (length (now (out .entry))) (length (now (orig .entry))) ⌝ }
     ensures memory { λ r. ⌜ (now (out .exit) ≡ outAfter r (resultOf (stepsOf (readingOf mode) 0 n) (now (text .entry))) (now (out .entry)))
         × After small r (now (a .entry)) (now (b .entry)) (now (c .entry)) (now (d .entry)) (now (e .entry)) (now (u .entry)) (now (a .exit)) (now (b .exit)) (now (c .exit)) (now (d .exit)) (now (e .exit)) (now (u .exit)) ⌝ }
-    ensures records { λ r. ⌜ now (orig .exit) ≡ outAfter r (originsOf form.Ol (stepsOf (readingOf mode) 0 n) (stepsFates (readingOf mode) 0 n) (now (text .entry))) (now (orig .entry)) ⌝ }
+    ensures records { λ r. ⌜ now (orig .exit) ≡ outAfter r (originsOf form-is.Ol (stepsOf (readingOf mode) 0 n) (stepsFates (readingOf mode) 0 n) (now (text .entry))) (now (orig .entry)) ⌝ }
 {
     tidy_small(0, n, mode, text, a, b, c, d, e, u, out, orig)
 }
 
-// Runs the passes of a task over a text, in the front of tables that are no shorter than their stated sizes.
+// Runs the passes from a number up to another over a text within the limits of the second pair, in the front of tables that are no shorter than their stated sizes.
 fn tidy_front(
-    m: Task,
+    from: usize,
+    to: usize,
+    mode: usize,
+    form: Form,
     text: &[u8],
     a: &mut [u8],
     b: &mut [u8],
@@ -340,9 +343,15 @@ fn tidy_front(
     table: &mut [usize],
     out: &mut [u8],
     orig: &mut [u8],
-) -> limits::Answer {
+) -> limits::Answer
+    requires { ⌜ tablesShort large (length (now f)) (length (now g)) (length (now h)) (length (now v)) (length (now w)) (length (now x)) (length (now p)) (length (now q)) (length (now r)) (length (now t)) (length (now own)) (length (now table)) ≡ false ⌝ }
+    ensures answer { λ y. ⌜ y ≡ wholeAnswer large form mode (isShort large (length (now (a .entry))) (length (now (b .entry))) (length (now (c .entry))) (length (now (d .entry))) (length (now (e .entry))) (length (now (u .entry)))) (now (text .entry)) (resultOf (stepsOf (readingOf mode) from (to - from)) (now (text .entry))) (length (now (out .entry))) (length (now (orig .entry))) ⌝ }
+    ensures memory { λ y. ⌜ (now (out .exit) ≡ outAfter y (resultOf (stepsOf (readingOf mode) from (to - from)) (now (text .entry))) (now (out .entry)))
+        × AfterLarge large y (now (a .entry)) (now (b .entry)) (now (c .entry)) (now (d .entry)) (now (e .entry)) (now (f .entry)) (now (g .entry)) (now (h .entry)) (now (u .entry)) (now (v .entry)) (now (w .entry)) (now (x .entry)) (now (p .entry)) (now (q .entry)) (now (r .entry)) (now (t .entry)) (now (own .entry)) (now (table .entry)) (now (a .exit)) (now (b .exit)) (now (c .exit)) (now (d .exit)) (now (e .exit)) (now (f .exit)) (now (g .exit)) (now (h .exit)) (now (u .exit)) (now (v .exit)) (now (w .exit)) (now (x .exit)) (now (p .exit)) (now (q .exit)) (now (r .exit)) (now (t .exit)) (now (own .exit)) (now (table .exit)) ⌝ }
+    ensures records { λ y. ⌜ now (orig .exit) ≡ outAfter y (originsOf form (stepsOf (readingOf mode) from (to - from)) (stepsFates (readingOf mode) from (to - from)) (now (text .entry))) (now (orig .entry)) ⌝ }
+{
     tidy(
-        m,
+        task(limits::large(), from, to, mode, form),
         text,
         a,
         b,
@@ -400,7 +409,6 @@ fn tidy_large(
         × AfterLarge large y (now (a .entry)) (now (b .entry)) (now (c .entry)) (now (d .entry)) (now (e .entry)) (now (f .entry)) (now (g .entry)) (now (h .entry)) (now (u .entry)) (now (v .entry)) (now (w .entry)) (now (x .entry)) (now (p .entry)) (now (q .entry)) (now (r .entry)) (now (t .entry)) (now (own .entry)) (now (table .entry)) (now (a .exit)) (now (b .exit)) (now (c .exit)) (now (d .exit)) (now (e .exit)) (now (f .exit)) (now (g .exit)) (now (h .exit)) (now (u .exit)) (now (v .exit)) (now (w .exit)) (now (x .exit)) (now (p .exit)) (now (q .exit)) (now (r .exit)) (now (t .exit)) (now (own .exit)) (now (table .exit)) ⌝ }
     ensures records { λ y. ⌜ now (orig .exit) ≡ outAfter y (originsOf form (stepsOf (readingOf mode) from (to - from)) (stepsFates (readingOf mode) from (to - from)) (now (text .entry))) (now (orig .entry)) ⌝ }
 {
-    let m = task(limits::large(), from, to, mode, form);
     let short = limits::tables_short(
         f.len(),
         g.len(),
@@ -416,10 +424,13 @@ fn tidy_large(
         table.len(),
     );
     if short {
-        return limits::refused_task(m, text, true);
+        return limits::refused_task(task(limits::large(), from, to, mode, form), text, true);
     }
     tidy_front(
-        m,
+        from,
+        to,
+        mode,
+        form,
         text,
         a,
         b,

@@ -246,7 +246,8 @@ pub fn work(
         own,
         &mut table[..k],
     );
-    let y = close(m.form, n, text, &table[..k], a, b, c, d, e, u, out, orig);
+    let form = m.form;
+    let y = close(form, n, text, &table[..k], a, b, c, d, e, u, out, orig);
     wipe_tables(f, g, h, v, w, x, p, q, r, t, own, table);
     y
 }

@@ -3,14 +3,15 @@ use Prim.Native.Nat.{ℕ, _≤_}
 use mathlib.Core.Path.{_≡_}
 use mathlib.Core.List.{List, _++_}
 use lib.ListN.{length, drop}
+use Rattle.origins.specs.declared.Form.{Form}
 use Rattle.limits.specs.declared.Limits.{Limits}
 use Rattle.limits.specs.declared.Task.{Task}
 use Rattle.limits.specs.declared.Answer.{Answer}
-use Rattle.limits.specs.Entry.{byteSize, blockSize, blank, workAfter}
+use Rattle.limits.specs.Entry.{byteSize, blockSize, lineSize, noteSize, owners, places, blank, workAfter}
 
--- the passes from a number up to another, in a mode, within limits
-abbrev pub taskOf : Limits → ℕ → ℕ → ℕ → Task
-taskOf L from to mode = record { from = from; to = to; mode = record { 0 = mode }; limits = L }
+-- the passes from a number up to another, in a mode, with records in a form, within limits
+abbrev pub taskOf : Limits → ℕ → ℕ → ℕ → Form → Task
+taskOf L from to mode F = record { from = from; to = to; mode = record { 0 = mode }; form = F; limits = L }
 
 -- the work buffers are no shorter than their stated sizes
 pub record Long (L : Limits) (a b c d e u : List ℕ) : Type 0 where
@@ -44,3 +45,18 @@ pub record Tables (y : Answer) (f g h v w x p q r t o z f′ g′ h′ v′ w′
   pub t-after : t′ ≡ workAfter y (length t) t
   pub o-after : o′ ≡ workAfter y (length o) o
   pub z-after : z′ ≡ workAfter y (length z) z
+
+-- the tables of the second pair are no shorter than their stated sizes
+pub record Tall (L : Limits) (f g h v w x p q r t o z : List ℕ) : Type 0 where
+  pub f-tall : places ≤ length f
+  pub g-tall : places ≤ length g
+  pub h-tall : lineSize L ≤ length h
+  pub v-tall : noteSize L ≤ length v
+  pub w-tall : noteSize L ≤ length w
+  pub x-tall : noteSize L ≤ length x
+  pub p-tall : lineSize L ≤ length p
+  pub q-tall : lineSize L ≤ length q
+  pub r-tall : places ≤ length r
+  pub t-tall : places ≤ length t
+  pub o-tall : owners ≤ length o
+  pub z-tall : lineSize L ≤ length z
