@@ -1,7 +1,5 @@
 // Tidies a larger listing: `optlarge [--strict] [--joined] [--pass N] [--origins RECORDS] [--form OL|OM] [--] [FILE]`, as optlines does a smaller one. Its buffers take some
 // 30 MB of the stack: `optlarge` raises the limit. A listing that is small enough goes the way of optlines, unless its records are asked for in the form `OM`.
-ghost use mathlib.Core.Path.{_≡_};
-ghost use lib.ListN.{length};
 use limits::Answer;
 use origins::Form;
 use tidying::asked;
@@ -11,70 +9,50 @@ use tidying::asked::Task;
 const STACK: u64 = 33554432;
 
 // Room for a text: one byte more than is taken, so that a longer text is seen.
-fn text_room() -> [u8; 1048577]
-    ensures { λ r. ⌜ 1048577 ≡ length r ⌝ }
-{
+fn text_room() -> [u8; 1048577] {
     [0; 1048577]
 }
 
 // A work buffer of bytes, and room for a result.
-fn work_room() -> [u8; 2097153]
-    ensures { λ r. ⌜ 2097153 ≡ length r ⌝ }
-{
+fn work_room() -> [u8; 2097153] {
     [0; 2097153]
 }
 
 // A work buffer of blocks.
-fn block_room() -> [u32; 1048576]
-    ensures { λ r. ⌜ 1048576 ≡ length r ⌝ }
-{
+fn block_room() -> [u32; 1048576] {
     [0; 1048576]
 }
 
 // Room for the records of all lines, in either form.
-fn record_room() -> [u8; 1100000]
-    ensures { λ r. ⌜ 1100000 ≡ length r ⌝ }
-{
+fn record_room() -> [u8; 1100000] {
     [0; 1100000]
 }
 
 // A table of flags over registers, and one of words.
-fn flag_room() -> [u8; 262143]
-    ensures { λ r. ⌜ 262143 ≡ length r ⌝ }
-{
+fn flag_room() -> [u8; 262143] {
     [0; 262143]
 }
 
-fn place_room() -> [usize; 262143]
-    ensures { λ r. ⌜ 262143 ≡ length r ⌝ }
-{
+fn place_room() -> [usize; 262143] {
     [0; 262143]
 }
 
 // A table of the owners of places.
-fn owner_room() -> [usize; 131071]
-    ensures { λ r. ⌜ 131071 ≡ length r ⌝ }
-{
+fn owner_room() -> [usize; 131071] {
     [0; 131071]
 }
 
 // A table with two notes a line.
-fn note_room() -> [u32; 200000]
-    ensures { λ r. ⌜ 200000 ≡ length r ⌝ }
-{
+fn note_room() -> [u32; 200000] {
     [0; 200000]
 }
 
 // A table with a flag a line, and one with a word a line.
-fn mark_room() -> [u8; 100000]
-    ensures { λ r. ⌜ 100000 ≡ length r ⌝ }
-{
+fn mark_room() -> [u8; 100000] {
     [0; 100000]
 }
 
-fn line_room() -> [usize; 100000]
-    ensures { λ r. ⌜ 100000 ≡ length r ⌝ }
-{
+fn line_room() -> [usize; 100000] {
     [0; 100000]
 }
 

@@ -87,20 +87,31 @@ fn grow(v: usize, b: u8) -> usize
     v
 }
 
-// Enters the numbers of a text.
+// Whether the number behind a byte may be that of a register or of a phi.
+fn is_mark(b: u8) -> bool
+    ensures { λ r. ⌜ r ≡ isMark b ⌝ }
+{
+    (b == b'r') | (b == b'i')
+}
+
+// Enters the numbers of a text that stand behind a mark.
 fn enter_all(text: &[u8], low: usize, own: &mut [usize])
-    ensures { λ _. ⌜ now (own .exit) ≡ enteredAll low 0 (now (text .entry)) (now (own .entry)) ⌝ }
+    ensures { λ _. ⌜ now (own .exit) ≡ enteredAll low false 0 (now (text .entry)) (now (own .entry)) ⌝ }
 {
     let mut i = 0;
+    let mut marked = false;
     let mut v = 0;
     while i < text.len() {
         let b = text[i];
-        if is_digit(b) {
+        if !is_digit(b) {
+            enter(v, low, own);
+            marked = is_mark(b);
+            v = 0;
+            i += 1;
+        } else if marked {
             v = grow(v, b);
             i += 1;
         } else {
-            enter(v, low, own);
-            v = 0;
             i += 1;
         }
     }
