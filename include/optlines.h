@@ -181,7 +181,7 @@
  *
  *     After 0, 7 and 8 so much of each is 0, and the rest as before; after any other number all of
  *     it is as before. A struct optlines_large has all of these, the result buffer and the record
- *     buffer, some 32 MB: keep it static or allocate it. Everything said of struct optlines_work
+ *     buffer, some 29 MB: keep it static or allocate it. Everything said of struct optlines_work
  *     holds for it.
  *
  * MEMORY AFTER A CALL

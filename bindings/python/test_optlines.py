@@ -328,6 +328,96 @@ class Module(unittest.TestCase):
         self.assertIn("the library is for x86-64 Linux, and this Python is for aarch64", said)
 
 
+class Large(unittest.TestCase):
+    """Larger texts: the limits from both sides, the forms, the work buffers, and what each leaves."""
+
+    @classmethod
+    def setUpClass(cls):
+        cls.work = o.LargeWork()
+
+    def refused(self, number, place, text, form=o.OM, pass_number=0, mode=o.PLAIN):
+        with self.assertRaises(o.Refused) as said:
+            if pass_number == 0:
+                o.optimize_large(text, form, mode, self.work)
+            else:
+                o.run_pass_large(pass_number, text, form, mode, self.work)
+        self.assertEqual((said.exception.number, said.exception.place), (number, place))
+
+    def test_as_the_first_pair(self):
+        for form in (o.OL, o.OM):
+            for mode in range(4):
+                for number in range(7):
+                    small = o.run_pass(number, SAMPLE, mode) if number else o.optimize(SAMPLE, mode)
+                    large = (o.run_pass_large(number, SAMPLE, form, mode, self.work) if number
+                             else o.optimize_large(SAMPLE, form, mode, self.work))
+                    self.assertEqual((small.text, small.records), (large.text, large.records))
+                    self.assertEqual(small.origins == large.origins, form == o.OL)
+                    self.assertEqual(len(large.origins), o.record_bytes(SAMPLE, form))
+
+    def test_limits(self):
+        last = b"a" * (o.LARGE_TEXT - 1) + b"\n"
+        self.assertEqual(o.optimize_large(last, work=self.work).text, last)
+        self.refused(o.TOO_LONG, 1048576, last + b"\n")
+        most = b"a\n" * o.LARGE_LINES
+        tidy = o.optimize_large(most, work=self.work)
+        self.assertEqual(tidy.text, most)
+        self.assertEqual(tidy.records[-1], o.Record(99999, o.EQUAL, 99999))
+        self.refused(o.TOO_MANY_LINES, 100000, most + b"a")
+
+    def test_forms(self):
+        wide = b"a\n" * 65535
+        tidy = o.optimize_large(wide, o.OL, work=self.work)
+        self.assertEqual(tidy.records[-1], o.Record(65534, o.EQUAL, 65534))
+        self.refused(o.WIDE_LINES, 65535, wide + b"a", o.OL)
+        self.refused(o.WIDE_LINES, 65535, wide + b"a", o.OL, 3)
+        crowded = wide + b"[" * 65  # 13 comes before 6, and after 5
+        self.refused(o.WIDE_LINES, 65535, crowded, o.OL)
+        self.refused(o.CROWDED, 65535, crowded, o.OM)
+        self.refused(o.TOO_MANY_LINES, 100000, b"a\n" * 100001, o.OL)
+        gone = b"_\n" + b"__runtime.DeclareGlobals(1);\n"
+        file = o.optimize_large(gone, o.OM, work=self.work).origins
+        self.assertEqual(file[11:], b"OM\x01\0\0\0\x03\xff\xff\xff\xff")
+
+    def test_order(self):
+        bad = b"\xff" * (o.LARGE_TEXT + 1)
+        self.refused(o.BAD_PASS, 0, bad, o.OL, 7, 4)
+        self.refused(o.BAD_MODE, 0, bad, o.OL, 0, 4)
+        self.refused(o.TOO_LONG, 1048576, bad, o.OL)
+        self.refused(o.NOT_UTF8, 0, b"\xff" + b"a\n" * 100001, o.OL)
+
+    def test_each_buffer_short(self):
+        stated = [len(each) for each in self.work.buffers]
+        out, orig = filled(ctypes.c_uint8, 100), filled(ctypes.c_uint8, 100)
+        for which, size in enumerate(stated):
+            whole = self.work.buffers[which]
+            ctypes.memset(whole, FILLED, ctypes.sizeof(whole))
+            self.work.buffers[which] = Part(whole, size - 1)
+            try:
+                answer = o.call_large(0, SAMPLE, self.work, out, orig)
+            finally:
+                self.work.buffers[which] = whole
+            self.assertEqual(answer, (o.SHORT_WORK, 0, 0), which)
+            self.assertEqual(bytes(whole), bytes([FILLED]) * ctypes.sizeof(whole))
+        self.assertEqual(bytes(out) + bytes(orig), bytes([FILLED]) * 200)
+
+    def test_memory(self):
+        spare = 3
+        kinds = [(type(each)._type_, len(each)) for each in self.work.buffers]
+        for room, have, number in ((100, 100, o.DONE), (1, 100, o.SHORT_RESULT), (100, 65, o.SHORT_RECORDS)):
+            work = o.LargeWork()
+            work.buffers = [filled(kind, size + spare) for kind, size in kinds]
+            out, orig = filled(ctypes.c_uint8, room), filled(ctypes.c_uint8, have)
+            answer, length, place = o.call_large(0, SAMPLE, work, out, orig)
+            needed = {o.DONE: 0, o.SHORT_RESULT: len(TIDY), o.SHORT_RECORDS: 66}[number]
+            self.assertEqual((answer, place), (number, needed))
+            for each, (kind, size) in zip(work.buffers, kinds):
+                used = ctypes.sizeof(kind) * size
+                self.assertEqual(bytes(each)[:used], bytes(used))
+                self.assertEqual(bytes(each)[used:], bytes([FILLED]) * (ctypes.sizeof(kind) * spare))
+            wrote = TIDY if number == o.DONE else b""
+            self.assertEqual(bytes(out), wrote + bytes([FILLED]) * (room - len(wrote)))
+
+
 class Header(unittest.TestCase):
     """The constants of the module are those of include/optlines.h, which is read as text."""
 
@@ -338,14 +428,16 @@ class Header(unittest.TestCase):
     def test_defines(self):
         found = re.findall(r"^#define OPTLINES_(\w+) (.+)$", self.text, re.M)
         self.assertEqual(sorted(name for name, _ in found),
-                         ["BLOCKS", "BRACKETS", "BYTES", "JOINED", "LINES", "NO_LINE", "PLAIN", "RECORD",
-                          "RECORDS", "STACK", "STRICT", "STRICT_JOINED", "TEXT"])
+                         ["BLOCKS", "BRACKETS", "BYTES", "JOINED", "LARGE_BLOCKS", "LARGE_BYTES", "LARGE_LINES",
+                          "LARGE_NOTES", "LARGE_OWNERS", "LARGE_PLACES", "LARGE_RECORDS", "LARGE_TEXT", "LINES",
+                          "NO_LINE", "OL", "OM", "PLAIN", "RECORD", "RECORDS", "STACK", "STRICT", "STRICT_JOINED",
+                          "TEXT"])
         for name, value in found:
             self.assertEqual(getattr(o, name), int(value), name)
 
     def test_numbers(self):
         found = re.findall(r"^    OPTLINES_(\w+) = (\d+)", self.text, re.M)
-        self.assertEqual(len(found), 14 + 4)  # the numbers and the fates
+        self.assertEqual(len(found), 15 + 4)  # the numbers and the fates
         for name, value in found:
             if name != "OVERLAP":  # of the inline function for C alone
                 self.assertEqual(getattr(o, name), int(value), name)

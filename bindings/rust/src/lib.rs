@@ -2,7 +2,7 @@
 //! function does.
 //!
 //! [`optimize`] and [`run_pass`] bring their own buffers. [`optimize_in`] and [`run_pass_in`] work
-//! in lent ones and allocate nothing. Any number of threads may call at once; each needs [`STACK`]
+//! in lent ones and allocate nothing. [`large`] takes larger texts. Any number of threads may call at once; each needs [`STACK`]
 //! bytes of stack.
 //!
 //! ```
@@ -16,6 +16,7 @@
 
 #![deny(unsafe_op_in_unsafe_fn, missing_docs)]
 
+pub mod large;
 #[cfg(feature = "records")]
 pub mod records;
 
@@ -141,6 +142,9 @@ pub enum Refusal {
     Outside(usize),
     /// The library does not know the mode: it is an earlier one.
     BadMode,
+    /// The records are asked for in the form `OL`, and the text has more lines than it has numbers
+    /// for: of [`large`] alone.
+    WideLines,
     /// A number that this wrapper does not know: the library is a later one.
     Other {
         /// What the library answered.
@@ -167,6 +171,7 @@ impl Refusal {
             10 => Refusal::Overlong(place),
             11 => Refusal::Outside(place),
             12 => Refusal::BadMode,
+            13 => Refusal::WideLines,
             _ => Refusal::Other { number, place },
         })
     }
@@ -186,6 +191,7 @@ impl Refusal {
             Refusal::Overlong(_) => 10,
             Refusal::Outside(_) => 11,
             Refusal::BadMode => 12,
+            Refusal::WideLines => 13,
             Refusal::Other { number, .. } => number,
         }
     }
@@ -196,6 +202,7 @@ impl Refusal {
             Refusal::BadPass | Refusal::ShortWork | Refusal::BadMode => 0,
             Refusal::TooLong => TEXT,
             Refusal::TooManyLines => LINES,
+            Refusal::WideLines => 65_535,
             Refusal::NotUtf8(place)
             | Refusal::Crowded(place)
             | Refusal::ShortResult(place)
@@ -246,6 +253,7 @@ impl fmt::Display for Refusal {
                 )
             }
             Refusal::BadMode => write!(f, "there is no such mode: they are 0 to 3"),
+            Refusal::WideLines => write!(f, "the form OL has no numbers for more than 65535 lines"),
             Refusal::Other { number, place } => {
                 write!(
                     f,
@@ -430,11 +438,15 @@ mod tests {
             (6, 3),
             (7, 40),
         ];
-        let later = (8..=255).map(|n| (n, if n == 12 { 0 } else { 5 }));
+        let later = (8..=255).map(|n| match n {
+            12 => (n, 0),
+            13 => (n, 65_535),
+            _ => (n, 5),
+        });
         for (number, place) in answers.into_iter().chain(later) {
             let refusal = Refusal::of(number, place).expect("a refusal");
             assert_eq!((refusal.number(), refusal.place()), (number, place));
-            let known = matches!(number, 1..=12);
+            let known = matches!(number, 1..=13);
             assert_eq!(!known, refusal == Refusal::Other { number, place });
         }
         assert_eq!(Refusal::of(0, 0), None);

@@ -27,15 +27,16 @@ use Rattle.decls.specs.Decls.{pruneDecls}
 use Rattle.limits.specs.declared.Limits.{Limits}
 use Rattle.limits.specs.declared.Task.{Task}
 use Rattle.limits.specs.declared.Answer.{Answer}
-use Rattle.limits.specs.Answer.{passesRan}
-use Rattle.limits.proofs.AnswerLaws.{work-kept, work-wiped, roomed-runs}
+use Rattle.limits.specs.declared.Answer.the-variants.{Done}
+use Rattle.limits.specs.Answer.{isDone, passesRan}
+use Rattle.limits.proofs.AnswerLaws.{work-kept, work-wiped, roomed-runs, answer-refused, short-refused}
 use Rattle.steps.specs.Step.{stepOf, stepFates}
 use Rattle.steps.proofs.Goings.{step-goes}
 use Rattle.passes.specs.Passes.{resultOf, originsOf}
 use Rattle.passes.specs.Inner.Passes.{stepsOf, stepsFates}
 use Rattle.passes.specs.Inner.Buffers.{Unused}
 use Rattle.opt.specs.Whole.{whole, wholeFates}
-use Rattle.limits.specs.Entry.{byteSize, blockSize, lineSize, noteSize, owners, places, isShort, tablesShort, roomed, wholeAnswer, outAfter, workAfter, blank}
+use Rattle.limits.specs.Entry.{byteSize, blockSize, lineSize, noteSize, owners, places, isShort, tablesShort, checked, roomed, inMode, wholeAnswer, outAfter, workAfter, blank}
 use Rattle.opt.specs.Room.{After, AfterLarge}
 use Rattle.opt.specs.Inner.Room.{Long, Wiped, Tables, Tall}
 
@@ -61,8 +62,8 @@ long-by L a b c d e u h =
       u-long = ltb-false (length u) (blockSize L) (t .1);
     }
 
-pub tall-by : (L : Limits) (f g h v w x p q r t o z : List ℕ) → tablesShort L (length f) (length g) (length h) (length v) (length w) (length x) (length p) (length q) (length r) (length t) (length o) (length z) ≡ false → Tall L f g h v w x p q r t o z
-tall-by L f g h v w x p q r t o z k =
+pub tall-by : {L : Limits} {f g h v w x p q r t o z : List ℕ} → tablesShort L (length f) (length g) (length h) (length v) (length w) (length x) (length p) (length q) (length r) (length t) (length o) (length z) ≡ false → Tall L f g h v w x p q r t o z
+tall-by {L} {f} {g} {h} {v} {w} {x} {p} {q} {r} {t} {o} {z} k =
     let kf = or-none (ltb (length f) places) _ k in
     let kg = or-none (ltb (length g) places) _ (kf .1) in
     let kh = or-none (ltb (length h) (lineSize L)) _ (kg .1) in
@@ -258,6 +259,24 @@ origins-one {R} c F k t =
     let q : k + 1 - k ≡ 1 = omega arith in
     ap (λ (out : List (List ℕ)). fileOf (formShape F) (wentsOf out ls (stepFates R k ls))) (sym (ap (λ (n : ℕ). stepsOf R k n ls) q ∙ steps-one R k ls))
     ∙ ap (λ (fs : List Fate). fileOf (formShape F) (wentsOf (stepsOf R k (k + 1 - k) ls) ls fs)) (sym (ap (λ (n : ℕ). stepsFates R k n ls) q ∙ fates-one c k ls))
+
+-- ---- where a table is too short
+
+or-last : (b : Bool) {k : Bool} → k ≡ true → b || k ≡ true
+or-last true h = refl
+or-last false h = h
+
+pub or-neither : (b : Bool) {k : Bool} → k ≡ false → b || k ≡ b
+or-neither true h = refl
+or-neither false h = h
+
+-- a text is refused, whatever the other buffers are
+pub short-answer : (r : Answer) (L : Limits) (F : Form) (mode : ℕ) (b : Bool) {k : Bool} (t xs : List ℕ) (room have : ℕ) → k ≡ true → r ≡ inMode mode (checked L F true t (Done 0)) →
+    (r ≡ wholeAnswer L F mode (b || k) t xs room have) × ((isDone r ≡ false) × (passesRan r ≡ false))
+short-answer r L F mode b t xs room have h e =
+    let d : isDone r ≡ false = ap isDone e ∙ short-refused L F mode t in
+    let p = answer-refused r L F mode true t xs room have e d in
+    (p .0 ∙ ap (λ (s : Bool). wholeAnswer L F mode s t xs room have) (sym (or-last b h)), (d, p .1))
 
 -- ---- the task of an entry
 
