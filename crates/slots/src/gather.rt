@@ -1,11 +1,11 @@
-// The owners of a text: its numbers of four digits and more take places, in their order.
+// The owners of a text: its numbers of registers and phis take places, in their order.
 ghost use mathlib.Core.Path.{_≡_};
-ghost use mathlib.Core.Bool.{true};
+ghost use mathlib.Core.Bool.{true, false};
 ghost use Prim.Native.Nat.{_+_, _≤_, max};
 ghost use lib.Dec.{ltb};
 ghost use lib.ListN.{length, drop};
 ghost use Rattle.names.specs.Names.{isDigit};
-ghost use Rattle.slots.specs.Inner.Gather.{fourDigits, hasLong, grown, entered, enteredAll, gathered, gatheredLen};
+ghost use Rattle.slots.specs.Inner.Gather.{fourDigits, hasLong, grown, entered, isMark, enteredAll, gathered, gatheredLen};
 
 // Numbers of more digits than this grow no more.
 const LARGE: usize = 1000000000000000000;
