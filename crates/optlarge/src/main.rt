@@ -1,5 +1,5 @@
 // Tidies a larger listing: `optlarge [--strict] [--joined] [--pass N] [--origins RECORDS] [--form OL|OM] [--] [FILE]`, as optlines does a smaller one. Its buffers take some
-// 30 MB of the stack: `optlarge` raises the limit. A listing that is small enough goes the way of optlines, unless its records are asked for in the form `OM`.
+// 30 MB of the stack: tools/front.sh raises its limit. A listing that is small enough goes the way of optlines, unless its records are asked for in the form `OM`.
 use limits::Answer;
 use origins::Form;
 use tidying::asked;
@@ -263,7 +263,7 @@ fn tidy(task: Task, text: &[u8], name: &[u8]) {
     if !small && !has_stack() {
         tidying::tell::say_line(
             b"optlarge",
-            b": the stack is limited to less than 32 MiB: ulimit -s 32768 raises the limit, where it may\n",
+            b": the stack may not grow to 32 MiB, which this listing needs: ulimit -s 32768 raises its limit where that is allowed\n",
         );
         return;
     }
