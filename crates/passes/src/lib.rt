@@ -25,6 +25,11 @@ fn front(own: &[usize], n: usize) -> &[usize] {
     &own[..n]
 }
 
+// How many numbers have a place of their own in two tables over registers, of n and k entries, of which the last h are those of owners.
+fn low_in(n: usize, k: usize, h: usize) -> usize {
+    slots::low_of(slots::shorter(n, k), h)
+}
+
 // Writes the lines of a text into a buffer, runs the passes of a task over them, and returns how many bytes they are then. `own` gets the numbers
 // that have no place of their own in the tables over registers, and `table` the codes of the lines of the text: where each one is in the end.
 fn chain(
@@ -56,7 +61,7 @@ fn chain(
 {
     let mut n = lines::split_lines(text, a);
     slots::wipe(table);
-    let low = slots::low_of(r.len(), own.len());
+    let low = low_in(r.len(), v.len(), own.len());
     slots::wipe(own);
     let high = slots::gather::gather(&a[..n], low, own);
     let to = m.to;
