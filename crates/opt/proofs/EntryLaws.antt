@@ -6,8 +6,8 @@ use mathlib.Core.List.{List, [], _++_, append-nil}
 use native.Mathlib.Omega.{arith}
 use borrow.Author.Tests.{ltb-false}
 use lib.Dec.{ltb}
-use lib.ListN.{length, take, drop, replicate, length-append, length-drop, length-replicate}
-use lib.Seq.{length-take-le, drop-length, take-append-drop}
+use lib.ListN.{length, take, drop, replicate, length-append, length-drop, length-replicate, take-append-drop}
+use lib.Seq.{length-take-le, drop-length}
 use Rattle.lines.specs.Lf.{endsIn}
 use Rattle.lines.specs.Steps.{splitLines, joined}
 use Rattle.lines.proofs.Tests.{no}
@@ -38,7 +38,7 @@ use Rattle.passes.specs.Inner.Buffers.{Unused}
 use Rattle.opt.specs.Whole.{whole, wholeFates}
 use Rattle.limits.specs.Entry.{byteSize, blockSize, lineSize, noteSize, owners, places, isShort, tablesShort, checked, roomed, inMode, wholeAnswer, outAfter, workAfter, blank}
 use Rattle.opt.specs.Room.{After, AfterLarge}
-use Rattle.opt.specs.Inner.Room.{Long, Wiped, Tables, Tall}
+use Rattle.opt.specs.Inner.Room.{Long, Wiped, Tables, TallPlaces, TallRows}
 
 -- ---- the sizes
 
@@ -62,8 +62,9 @@ long-by L a b c d e u h =
       u-long = ltb-false (length u) (blockSize L) (t .1);
     }
 
-pub tall-by : {L : Limits} {f g h v w x p q r t o z : List ℕ} → tablesShort L (length f) (length g) (length h) (length v) (length w) (length x) (length p) (length q) (length r) (length t) (length o) (length z) ≡ false → Tall L f g h v w x p q r t o z
-tall-by {L} {f} {g} {h} {v} {w} {x} {p} {q} {r} {t} {o} {z} k =
+-- where no table is too short
+pub tall-by : (L : Limits) {f g h v w x p q r t o z : List ℕ} → tablesShort L (length f) (length g) (length h) (length v) (length w) (length x) (length p) (length q) (length r) (length t) (length o) (length z) ≡ false → TallPlaces places owners f g r t o × TallRows (lineSize L) (noteSize L) h v w x p q z
+tall-by L {f} {g} {h} {v} {w} {x} {p} {q} {r} {t} {o} {z} k =
     let kf = or-none (ltb (length f) places) _ k in
     let kg = or-none (ltb (length g) places) _ (kf .1) in
     let kh = or-none (ltb (length h) (lineSize L)) _ (kg .1) in
@@ -74,21 +75,24 @@ tall-by {L} {f} {g} {h} {v} {w} {x} {p} {q} {r} {t} {o} {z} k =
     let kq = or-none (ltb (length q) (lineSize L)) _ (kp .1) in
     let kr = or-none (ltb (length r) places) _ (kq .1) in
     let kt = or-none (ltb (length t) places) _ (kr .1) in
-    let ko = or-none (ltb (length o) owners) _ (kt .1) in
-    record {
-      f-tall = ltb-false (length f) places (kf .0);
-      g-tall = ltb-false (length g) places (kg .0);
-      h-tall = ltb-false (length h) (lineSize L) (kh .0);
-      v-tall = ltb-false (length v) (noteSize L) (kv .0);
-      w-tall = ltb-false (length w) (noteSize L) (kw .0);
-      x-tall = ltb-false (length x) (noteSize L) (kx .0);
-      p-tall = ltb-false (length p) (lineSize L) (kp .0);
-      q-tall = ltb-false (length q) (lineSize L) (kq .0);
-      r-tall = ltb-false (length r) places (kr .0);
-      t-tall = ltb-false (length t) places (kt .0);
-      o-tall = ltb-false (length o) owners (ko .0);
-      z-tall = ltb-false (length z) (lineSize L) (ko .1);
-    }
+    let ko = or-none (ltb (length o) owners) _ (kt .1) in (
+      record {
+        f-tall = ltb-false (length f) places (kf .0);
+        g-tall = ltb-false (length g) places (kg .0);
+        r-tall = ltb-false (length r) places (kr .0);
+        t-tall = ltb-false (length t) places (kt .0);
+        o-tall = ltb-false (length o) owners (ko .0);
+      },
+      record {
+        h-tall = ltb-false (length h) (lineSize L) (kh .0);
+        v-tall = ltb-false (length v) (noteSize L) (kv .0);
+        w-tall = ltb-false (length w) (noteSize L) (kw .0);
+        x-tall = ltb-false (length x) (noteSize L) (kx .0);
+        p-tall = ltb-false (length p) (lineSize L) (kp .0);
+        q-tall = ltb-false (length q) (lineSize L) (kq .0);
+        z-tall = ltb-false (length z) (lineSize L) (ko .1);
+      },
+    )
 
 -- a table of n places
 pub table : (n : ℕ) {m : ℕ} → m ≤ n → m ≤ length {A = ℕ} (replicate n 0)

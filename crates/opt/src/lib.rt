@@ -5,7 +5,7 @@ ghost use lib.ListN.{length};
 ghost use Rattle.lines.specs.Lf.{within};
 ghost use Rattle.origins.specs.declared.Form.the-variants as form-is;
 ghost use Rattle.reading.specs.Reading.{readingOf};
-ghost use mathlib.Core.Bool.{false, _||_};
+ghost use mathlib.Core.Bool.{_||_};
 ghost use Rattle.limits.specs.Entry.{small, large, isShort, tablesShort, recordsNeed, roomed, wholeAnswer, passAnswer, outAfter};
 ghost use Rattle.limits.specs.Inner.Sane.{Sane, Within};
 ghost use Rattle.steps.specs.Step.{stepOf, stepFates};
@@ -15,7 +15,7 @@ ghost use Rattle.passes.specs.Inner.Buffers.{Unused};
 ghost use Rattle.steps.specs.Inner.Bounds.{Tabled};
 ghost use Rattle.opt.specs.Whole.{whole, wholeFates};
 ghost use Rattle.opt.specs.Room.{After, AfterLarge};
-ghost use Rattle.opt.specs.Inner.Room.{taskOf, Long, Wiped, Tables};
+ghost use Rattle.opt.specs.Inner.Room.{taskOf, Long, Wiped, Tables, TallPlaces, TallRows, Even, Places, Rows};
 use limits::Limits;
 use limits::Task;
 use origins::Form;
@@ -316,12 +316,11 @@ pub fn run_stages(
     tidy_small(0, n, mode, text, a, b, c, d, e, u, out, orig)
 }
 
-// Runs the passes from a number up to another over a text within the limits of the second pair, in the front of tables that are no shorter than their stated sizes.
-fn tidy_front(
-    from: usize,
-    to: usize,
-    mode: usize,
-    form: Form,
+// Runs the passes of a task as `tidy` does, in the front of tables over registers and of owners that are long enough.
+fn tidy_placed(
+    m: Task,
+    places: usize,
+    owners: usize,
     text: &[u8],
     a: &mut [u8],
     b: &mut [u8],
@@ -344,33 +343,99 @@ fn tidy_front(
     out: &mut [u8],
     orig: &mut [u8],
 ) -> limits::Answer
-    requires { ⌜ tablesShort large (length (now f)) (length (now g)) (length (now h)) (length (now v)) (length (now w)) (length (now x)) (length (now p)) (length (now q)) (length (now r)) (length (now t)) (length (now own)) (length (now table)) ≡ false ⌝ }
-    ensures answer { λ y. ⌜ y ≡ wholeAnswer large form mode (isShort large (length (now (a .entry))) (length (now (b .entry))) (length (now (c .entry))) (length (now (d .entry))) (length (now (e .entry))) (length (now (u .entry)))) (now (text .entry)) (resultOf (stepsOf (readingOf mode) from (to - from)) (now (text .entry))) (length (now (out .entry))) (length (now (orig .entry))) ⌝ }
-    ensures memory { λ y. ⌜ (now (out .exit) ≡ outAfter y (resultOf (stepsOf (readingOf mode) from (to - from)) (now (text .entry))) (now (out .entry)))
-        × AfterLarge large y (now (a .entry)) (now (b .entry)) (now (c .entry)) (now (d .entry)) (now (e .entry)) (now (f .entry)) (now (g .entry)) (now (h .entry)) (now (u .entry)) (now (v .entry)) (now (w .entry)) (now (x .entry)) (now (p .entry)) (now (q .entry)) (now (r .entry)) (now (t .entry)) (now (own .entry)) (now (table .entry)) (now (a .exit)) (now (b .exit)) (now (c .exit)) (now (d .exit)) (now (e .exit)) (now (f .exit)) (now (g .exit)) (now (h .exit)) (now (u .exit)) (now (v .exit)) (now (w .exit)) (now (x .exit)) (now (p .exit)) (now (q .exit)) (now (r .exit)) (now (t .exit)) (now (own .exit)) (now (table .exit)) ⌝ }
-    ensures records { λ y. ⌜ now (orig .exit) ≡ outAfter y (originsOf form (stepsOf (readingOf mode) from (to - from)) (stepsFates (readingOf mode) from (to - from)) (now (text .entry))) (now (orig .entry)) ⌝ }
+    requires { ⌜ Sane (m .limits) × ((m .limits .lines ≤ places) × (TallPlaces places owners (now f) (now g) (now r) (now t) (now own) × Even (m .limits) (now v) (now w) (now x) (now p) (now q) (now table))) ⌝ }
+    ensures answer { λ y. ⌜ y ≡ wholeAnswer (m .limits) (m .form) (m .mode .0) (isShort (m .limits) (length (now (a .entry))) (length (now (b .entry))) (length (now (c .entry))) (length (now (d .entry))) (length (now (e .entry))) (length (now (u .entry)))) (now (text .entry)) (resultOf (stepsOf (readingOf (m .mode .0)) (m .from) (m .to - m .from)) (now (text .entry))) (length (now (out .entry))) (length (now (orig .entry))) ⌝ }
+    ensures memory { λ y. ⌜ (now (out .exit) ≡ outAfter y (resultOf (stepsOf (readingOf (m .mode .0)) (m .from) (m .to - m .from)) (now (text .entry))) (now (out .entry)))
+        × After (m .limits) y (now (a .entry)) (now (b .entry)) (now (c .entry)) (now (d .entry)) (now (e .entry)) (now (u .entry)) (now (a .exit)) (now (b .exit)) (now (c .exit)) (now (d .exit)) (now (e .exit)) (now (u .exit)) ⌝ }
+    ensures records { λ y. ⌜ now (orig .exit) ≡ outAfter y (originsOf (m .form) (stepsOf (readingOf (m .mode .0)) (m .from) (m .to - m .from)) (stepsFates (readingOf (m .mode .0)) (m .from) (m .to - m .from)) (now (text .entry))) (now (orig .entry)) ⌝ }
+    ensures tables { λ y. ⌜ Places y places owners (now (f .entry)) (now (g .entry)) (now (r .entry)) (now (t .entry)) (now (own .entry)) (now (f .exit)) (now (g .exit)) (now (r .exit)) (now (t .exit)) (now (own .exit)) × Rows y (length (now (h .entry))) (length (now (v .entry))) (length (now (w .entry))) (length (now (x .entry))) (length (now (p .entry))) (length (now (q .entry))) (length (now (table .entry))) (now (h .entry)) (now (v .entry)) (now (w .entry)) (now (x .entry)) (now (p .entry)) (now (q .entry)) (now (table .entry)) (now (h .exit)) (now (v .exit)) (now (w .exit)) (now (x .exit)) (now (p .exit)) (now (q .exit)) (now (table .exit)) ⌝ }
 {
     tidy(
-        task(limits::large(), from, to, mode, form),
+        m,
         text,
         a,
         b,
         c,
         d,
         e,
-        &mut f[..limits::LARGE_PLACES],
-        &mut g[..limits::LARGE_PLACES],
-        &mut h[..limits::LARGE_LINES],
+        &mut f[..places],
+        &mut g[..places],
+        h,
         u,
-        &mut v[..limits::LARGE_NOTES],
-        &mut w[..limits::LARGE_NOTES],
-        &mut x[..limits::LARGE_NOTES],
-        &mut p[..limits::LARGE_LINES],
-        &mut q[..limits::LARGE_LINES],
-        &mut r[..limits::LARGE_PLACES],
-        &mut t[..limits::LARGE_PLACES],
-        &mut own[..limits::LARGE_OWNERS],
-        &mut table[..limits::LARGE_LINES],
+        v,
+        w,
+        x,
+        p,
+        q,
+        &mut r[..places],
+        &mut t[..places],
+        &mut own[..owners],
+        table,
+        out,
+        orig,
+    )
+}
+
+// Runs the passes of a task as `tidy` does, in the front of tables that are all long enough: `lines` entries are used of one over lines, and `notes` of one that has two notes
+// a line.
+fn tidy_lined(
+    m: Task,
+    lines: usize,
+    notes: usize,
+    places: usize,
+    owners: usize,
+    text: &[u8],
+    a: &mut [u8],
+    b: &mut [u8],
+    c: &mut [u8],
+    d: &mut [u8],
+    e: &mut [u8],
+    f: &mut [u8],
+    g: &mut [u8],
+    h: &mut [u8],
+    u: &mut [u32],
+    v: &mut [u32],
+    w: &mut [u32],
+    x: &mut [u32],
+    p: &mut [usize],
+    q: &mut [usize],
+    r: &mut [usize],
+    t: &mut [usize],
+    own: &mut [usize],
+    table: &mut [usize],
+    out: &mut [u8],
+    orig: &mut [u8],
+) -> limits::Answer
+    requires { ⌜ Sane (m .limits) × (((m .limits .lines ≤ lines) × (m .limits .lines ≤ places)) × (TallPlaces places owners (now f) (now g) (now r) (now t) (now own) × TallRows lines notes (now h) (now v) (now w) (now x) (now p) (now q) (now table))) ⌝ }
+    ensures answer { λ y. ⌜ y ≡ wholeAnswer (m .limits) (m .form) (m .mode .0) (isShort (m .limits) (length (now (a .entry))) (length (now (b .entry))) (length (now (c .entry))) (length (now (d .entry))) (length (now (e .entry))) (length (now (u .entry)))) (now (text .entry)) (resultOf (stepsOf (readingOf (m .mode .0)) (m .from) (m .to - m .from)) (now (text .entry))) (length (now (out .entry))) (length (now (orig .entry))) ⌝ }
+    ensures memory { λ y. ⌜ (now (out .exit) ≡ outAfter y (resultOf (stepsOf (readingOf (m .mode .0)) (m .from) (m .to - m .from)) (now (text .entry))) (now (out .entry)))
+        × After (m .limits) y (now (a .entry)) (now (b .entry)) (now (c .entry)) (now (d .entry)) (now (e .entry)) (now (u .entry)) (now (a .exit)) (now (b .exit)) (now (c .exit)) (now (d .exit)) (now (e .exit)) (now (u .exit)) ⌝ }
+    ensures records { λ y. ⌜ now (orig .exit) ≡ outAfter y (originsOf (m .form) (stepsOf (readingOf (m .mode .0)) (m .from) (m .to - m .from)) (stepsFates (readingOf (m .mode .0)) (m .from) (m .to - m .from)) (now (text .entry))) (now (orig .entry)) ⌝ }
+    ensures tables { λ y. ⌜ Places y places owners (now (f .entry)) (now (g .entry)) (now (r .entry)) (now (t .entry)) (now (own .entry)) (now (f .exit)) (now (g .exit)) (now (r .exit)) (now (t .exit)) (now (own .exit)) × Rows y lines notes notes notes lines lines lines (now (h .entry)) (now (v .entry)) (now (w .entry)) (now (x .entry)) (now (p .entry)) (now (q .entry)) (now (table .entry)) (now (h .exit)) (now (v .exit)) (now (w .exit)) (now (x .exit)) (now (p .exit)) (now (q .exit)) (now (table .exit)) ⌝ }
+{
+    tidy_placed(
+        m,
+        places,
+        owners,
+        text,
+        a,
+        b,
+        c,
+        d,
+        e,
+        f,
+        g,
+        &mut h[..lines],
+        u,
+        &mut v[..notes],
+        &mut w[..notes],
+        &mut x[..notes],
+        &mut p[..lines],
+        &mut q[..lines],
+        r,
+        t,
+        own,
+        &mut table[..lines],
         out,
         orig,
     )
@@ -409,6 +474,7 @@ fn tidy_large(
         × AfterLarge large y (now (a .entry)) (now (b .entry)) (now (c .entry)) (now (d .entry)) (now (e .entry)) (now (f .entry)) (now (g .entry)) (now (h .entry)) (now (u .entry)) (now (v .entry)) (now (w .entry)) (now (x .entry)) (now (p .entry)) (now (q .entry)) (now (r .entry)) (now (t .entry)) (now (own .entry)) (now (table .entry)) (now (a .exit)) (now (b .exit)) (now (c .exit)) (now (d .exit)) (now (e .exit)) (now (f .exit)) (now (g .exit)) (now (h .exit)) (now (u .exit)) (now (v .exit)) (now (w .exit)) (now (x .exit)) (now (p .exit)) (now (q .exit)) (now (r .exit)) (now (t .exit)) (now (own .exit)) (now (table .exit)) ⌝ }
     ensures records { λ y. ⌜ now (orig .exit) ≡ outAfter y (originsOf form (stepsOf (readingOf mode) from (to - from)) (stepsFates (readingOf mode) from (to - from)) (now (text .entry))) (now (orig .entry)) ⌝ }
 {
+    let m = task(limits::large(), from, to, mode, form);
     let short = limits::tables_short(
         f.len(),
         g.len(),
@@ -424,13 +490,14 @@ fn tidy_large(
         table.len(),
     );
     if short {
-        return limits::refused_task(task(limits::large(), from, to, mode, form), text, true);
+        return limits::refused_task(m, text, true);
     }
-    tidy_front(
-        from,
-        to,
-        mode,
-        form,
+    tidy_lined(
+        m,
+        limits::LARGE_LINES,
+        limits::LARGE_NOTES,
+        limits::LARGE_PLACES,
+        limits::LARGE_OWNERS,
         text,
         a,
         b,

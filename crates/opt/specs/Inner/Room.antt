@@ -7,7 +7,7 @@ use Rattle.origins.specs.declared.Form.{Form}
 use Rattle.limits.specs.declared.Limits.{Limits}
 use Rattle.limits.specs.declared.Task.{Task}
 use Rattle.limits.specs.declared.Answer.{Answer}
-use Rattle.limits.specs.Entry.{byteSize, blockSize, lineSize, noteSize, owners, places, blank, workAfter}
+use Rattle.limits.specs.Entry.{byteSize, blockSize, blank, workAfter}
 
 -- the passes from a number up to another, in a mode, with records in a form, within limits
 abbrev pub taskOf : Limits → ℕ → ℕ → ℕ → Form → Task
@@ -46,17 +46,46 @@ pub record Tables (y : Answer) (f g h v w x p q r t o z f′ g′ h′ v′ w′
   pub o-after : o′ ≡ workAfter y (length o) o
   pub z-after : z′ ≡ workAfter y (length z) z
 
--- the tables of the second pair are no shorter than their stated sizes
-pub record Tall (L : Limits) (f g h v w x p q r t o z : List ℕ) : Type 0 where
-  pub f-tall : places ≤ length f
-  pub g-tall : places ≤ length g
-  pub h-tall : lineSize L ≤ length h
-  pub v-tall : noteSize L ≤ length v
-  pub w-tall : noteSize L ≤ length w
-  pub x-tall : noteSize L ≤ length x
-  pub p-tall : lineSize L ≤ length p
-  pub q-tall : lineSize L ≤ length q
-  pub r-tall : places ≤ length r
-  pub t-tall : places ≤ length t
-  pub o-tall : owners ≤ length o
-  pub z-tall : lineSize L ≤ length z
+-- tables over registers have n places at least, and the table of owners has k
+pub record TallPlaces (n k : ℕ) (f g r t o : List ℕ) : Type 0 where
+  pub f-tall : n ≤ length f
+  pub g-tall : n ≤ length g
+  pub r-tall : n ≤ length r
+  pub t-tall : n ≤ length t
+  pub o-tall : k ≤ length o
+
+-- tables over lines have n entries at least, and those of notes have k
+pub record TallRows (n k : ℕ) (h v w x p q z : List ℕ) : Type 0 where
+  pub h-tall : n ≤ length h
+  pub v-tall : k ≤ length v
+  pub w-tall : k ≤ length w
+  pub x-tall : k ≤ length x
+  pub p-tall : n ≤ length p
+  pub q-tall : n ≤ length q
+  pub z-tall : n ≤ length z
+
+-- tables over lines have an entry for each line, and those of notes are of one length
+pub record Even (L : Limits) (v w x p q z : List ℕ) : Type 0 where
+  pub p-lines : L .lines ≤ length p
+  pub q-lines : L .lines ≤ length q
+  pub z-lines : L .lines ≤ length z
+  pub w-as-v : length w ≡ length v
+  pub w-as-x : length w ≡ length x
+
+-- tables over registers after an answer, of which n places are used, and k owners
+pub record Places (y : Answer) (n k : ℕ) (f g r t o f′ g′ r′ t′ o′ : List ℕ) : Type 0 where
+  pub f-after : f′ ≡ workAfter y n f
+  pub g-after : g′ ≡ workAfter y n g
+  pub r-after : r′ ≡ workAfter y n r
+  pub t-after : t′ ≡ workAfter y n t
+  pub o-after : o′ ≡ workAfter y k o
+
+-- the other tables after an answer, of which so many entries are used
+pub record Rows (y : Answer) (nh nv nw nx np nq nz : ℕ) (h v w x p q z h′ v′ w′ x′ p′ q′ z′ : List ℕ) : Type 0 where
+  pub h-after : h′ ≡ workAfter y nh h
+  pub v-after : v′ ≡ workAfter y nv v
+  pub w-after : w′ ≡ workAfter y nw w
+  pub x-after : x′ ≡ workAfter y nx x
+  pub p-after : p′ ≡ workAfter y np p
+  pub q-after : q′ ≡ workAfter y nq q
+  pub z-after : z′ ≡ workAfter y nz z
