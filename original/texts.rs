@@ -384,9 +384,14 @@ impl Texts {
             _ => 1 << 16,
         };
         let size = random.between(1 << 14, most);
+        // the original does not end on some texts beyond ASCII, and one part is enough for that
+        let ascii = random.chance(80);
         let mut text = Vec::new();
         while text.len() < size {
-            text.extend_from_slice(&self.part(random, pass));
+            let part = self.part(random, pass);
+            if !ascii || part.is_ascii() {
+                text.extend_from_slice(&part);
+            }
         }
         if text.len() > LARGE_BYTES && random.chance(80) {
             text.truncate(LARGE_BYTES);

@@ -170,18 +170,17 @@ hush() {
     waiter=
 }
 
-# Lends the program a larger stack. Where that is not allowed, the program says so if it needs it.
-lend_stack() {
-    [ -n "${stack-}" ] || return 0
-    most=$(ulimit -s)
-    [ "$most" != unlimited ] && [ "$most" -ge "$stack" ] || ulimit -S -s "$stack" 2>/dev/null || :
-}
+# Whether the program has as large a stack as it may need.
+has_stack() { [ -z "${stack-}" ] || { [ "$(ulimit -s)" != unlimited ] && [ "$(ulimit -s)" -ge "$stack" ]; }; }
+
+# Lends the program such a stack, where that is allowed. An emulator takes a number for the limit alone.
+lend_stack() { has_stack || ulimit -S -s "$stack" 2>/dev/null; }
 
 # Runs the program, its standard output going where this function's goes. What it says is kept, and a status is made of it. A reader that
 # went away is an error of the write, and no signal.
 run() { # WORDS..
     watch
-    { said=$({ trap '' PIPE; lend_stack; "$runner" "$program" "$@" >&3 3>&-; } 2>&1); } 3>&1
+    { said=$({ trap '' PIPE; lend_stack || :; "$runner" "$program" "$@" >&3 3>&-; } 2>&1); } 3>&1
     ended=$?
     hush
     case $ended-$said in
@@ -192,6 +191,7 @@ run() { # WORDS..
     [ "$ended" -le 128 ] || ended="$ended, which is signal $((ended - 128))"
     said="${said:+$said
 }$name: the program ended with status $ended"
+    (lend_stack) || said="$name: the stack may not grow to $stack KiB, which this listing needs: ulimit -s raises its limit where that is allowed"
     return 2
 }
 

@@ -63,8 +63,8 @@ long-by L a b c d e u h =
     }
 
 -- where no table is too short
-pub tall-by : {L : Limits} {f g h v w x p q r t o z : List ℕ} → tablesShort L (length f) (length g) (length h) (length v) (length w) (length x) (length p) (length q) (length r) (length t) (length o) (length z) ≡ false → TallPlaces places owners f g r t o × TallRows (lineSize L) (noteSize L) h v w x p q z
-tall-by {L} {f} {g} {h} {v} {w} {x} {p} {q} {r} {t} {o} {z} k =
+pub tall-by : (L : Limits) {f g h v w x p q r t o z : List ℕ} → tablesShort L (length f) (length g) (length h) (length v) (length w) (length x) (length p) (length q) (length r) (length t) (length o) (length z) ≡ false → TallPlaces places owners f g r t o × TallRows (lineSize L) (noteSize L) h v w x p q z
+tall-by L {f} {g} {h} {v} {w} {x} {p} {q} {r} {t} {o} {z} k =
     let kf = or-none (ltb (length f) places) _ k in
     let kg = or-none (ltb (length g) places) _ (kf .1) in
     let kh = or-none (ltb (length h) (lineSize L)) _ (kg .1) in

@@ -5,9 +5,6 @@ use origins::Form;
 use tidying::asked;
 use tidying::asked::Task;
 
-// So many bytes of stack are asked for: the buffers, and what the calls below take.
-const STACK: u64 = 33554432;
-
 // Room for a text: one byte more than is taken, so that a longer text is seen.
 fn text_room() -> [u8; 1048577] {
     [0; 1048577]
@@ -56,89 +53,6 @@ fn line_room() -> [usize; 100000] {
     [0; 100000]
 }
 
-// Runs one pass over a text where it is asked for, and all of them else, with records in a form.
-fn run(
-    mode: usize,
-    one: bool,
-    pass: usize,
-    form: Form,
-    text: &[u8],
-    a: &mut [u8],
-    b: &mut [u8],
-    c: &mut [u8],
-    d: &mut [u8],
-    e: &mut [u8],
-    f: &mut [u8],
-    g: &mut [u8],
-    h: &mut [u8],
-    u: &mut [u32],
-    v: &mut [u32],
-    w: &mut [u32],
-    x: &mut [u32],
-    p: &mut [usize],
-    q: &mut [usize],
-    r: &mut [usize],
-    t: &mut [usize],
-    own: &mut [usize],
-    table: &mut [usize],
-    out: &mut [u8],
-    orig: &mut [u8],
-) -> Answer {
-    if one {
-        return opt::run_pass_large(
-            pass,
-            mode,
-            form,
-            text,
-            a,
-            b,
-            c,
-            d,
-            e,
-            f,
-            g,
-            h,
-            u,
-            v,
-            w,
-            x,
-            p,
-            q,
-            r,
-            t,
-            own,
-            table,
-            out,
-            orig,
-        );
-    }
-    opt::optimize_large(
-        mode,
-        form,
-        text,
-        a,
-        b,
-        c,
-        d,
-        e,
-        f,
-        g,
-        h,
-        u,
-        v,
-        w,
-        x,
-        p,
-        q,
-        r,
-        t,
-        own,
-        table,
-        out,
-        orig,
-    )
-}
-
 // Does to a text what is asked, by the second pair, with the work buffers and tables that it needs.
 fn answer_large(
     mode: usize,
@@ -167,10 +81,36 @@ fn answer_large(
     let mut t = place_room();
     let mut own = owner_room();
     let mut table = line_room();
-    run(
+    if one {
+        return opt::run_pass_large(
+            pass,
+            mode,
+            form,
+            text,
+            &mut a,
+            &mut b,
+            &mut c,
+            &mut d,
+            &mut e,
+            &mut f,
+            &mut g,
+            &mut h,
+            &mut u,
+            &mut v,
+            &mut w,
+            &mut x,
+            &mut p,
+            &mut q,
+            &mut r,
+            &mut t,
+            &mut own,
+            &mut table,
+            out,
+            orig,
+        );
+    }
+    opt::optimize_large(
         mode,
-        one,
-        pass,
         form,
         text,
         &mut a,
@@ -194,18 +134,6 @@ fn answer_large(
         out,
         orig,
     )
-}
-
-// Whether the program may take as much of the stack as it needs.
-fn has_stack() -> bool {
-    let mut limit = libc::types::rlimit {
-        rlim_cur: 0,
-        rlim_max: 0,
-    };
-    if libc::getrlimit(libc::RLIMIT_STACK, &mut limit) != 0 {
-        return false;
-    }
-    STACK <= limit.rlim_cur
 }
 
 // Whether the first pair takes a text, with records in a form.
@@ -260,13 +188,6 @@ fn form_for(task: Task, text: &[u8]) -> Form {
 fn tidy(task: Task, text: &[u8], name: &[u8]) {
     let form = form_for(task, text);
     let small = is_small(form, text);
-    if !small && !has_stack() {
-        tidying::tell::say_line(
-            b"optlarge",
-            b": the stack may not grow to 32 MiB, which this listing needs: ulimit -s 32768 raises its limit where that is allowed\n",
-        );
-        return;
-    }
     let mut out = work_room();
     let mut orig = record_room();
     let answer = answer_to(task, form, small, text, &mut out, &mut orig);

@@ -1,5 +1,11 @@
 -- `opt::optimize_large` meets its contract. Assumes nothing.
 use borrow.Author.Needs.{needs}
+use Prim.Native.Nat.{ℕ}
+use mathlib.Core.Path.{sym, ap, _∙_}
+use mathlib.Core.Bool.{_||_}
+use mathlib.Core.List.{List}
+use lib.ListN.{length}
+use Rattle.limits.specs.Entry.{large, isShort, tablesShort, wholeAnswer, outAfter}
 use Rattle.reading.specs.Reading.{readingOf}
 use Rattle.reading.proofs.Lined.{mode-lined}
 use Rattle.opt.proofs.EntryLaws.{result-whole, origins-whole}
@@ -70,7 +76,7 @@ same-length-20 : tie.Need-same-length-20
 same-length-20 c = c .before .before .before .before .before .before .before .before .before .before .before .before .before .before .before .before .before .before .before .before .before .before .before .before .before .before .before .before .before .before .before .before .before .before .before .before .before .before .before .before .tidy-large .kept .1 .1 .1 .1 .1 .1 .1 .1 .1 .1 .1 .1 .1 .1 .1 .1 .1 .1 .1 .1 .1 .1 .1 .1 .0
 
 returns : tie.Need-returns
-returns c = let g = c .before .before .before .before .before .before .before .before .before .before .before .before .before .before .before .before .before .before .before .before .before .before .before .before .before .before .before .before .before .before .before .before .before .before .before .before .before .before .before .before .before .before .before .before .before .before .before .before .before .before .before .before .before .before .before .before .before .before .before .before .before .before .before .before .before .before .before .before .before .before .before .before .before .before .before .before .before .before .before .before .before .before .args in rw (result-whole (readingOf (g .mode)) (g .text .now), origins-whole (mode-lined (g .mode)) (g .form) (g .text .now)) (c .before .before .before .before .before .before .before .before .before .before .before .before .before .before .before .before .before .before .before .before .before .before .before .before .before .before .before .before .before .before .before .before .before .before .before .before .before .before .before .before .tidy-large .ensures)
+returns c = let g = c .before .before .before .before .before .before .before .before .before .before .before .before .before .before .before .before .before .before .before .before .before .before .before .before .before .before .before .before .before .before .before .before .before .before .before .before .before .before .before .before .before .before .before .before .before .before .before .before .before .before .before .before .before .before .before .before .before .before .before .before .before .before .before .before .before .before .before .before .before .before .before .before .before .before .before .before .before .before .before .before .before .before .args in let R = readingOf (g .mode) in let s = isShort large (length (g .a .now)) (length (g .b .now)) (length (g .c .now)) (length (g .d .now)) (length (g .e .now)) (length (g .u .now)) || tablesShort large (length (g .f .now)) (length (g .g .now)) (length (g .h .now)) (length (g .v .now)) (length (g .w .now)) (length (g .x .now)) (length (g .p .now)) (length (g .q .now)) (length (g .r .now)) (length (g .t .now)) (length (g .own .now)) (length (g .table .now)) in let y = c .before .before .before .before .before .before .before .before .before .before .before .before .before .before .before .before .before .before .before .before .before .before .before .before .before .before .before .before .before .before .before .before .before .before .before .before .before .before .before .before .tidy-large .result in let w = c .before .before .before .before .before .before .before .before .before .before .before .before .before .before .before .before .before .before .before .before .before .before .before .before .before .before .before .before .before .before .before .before .before .before .before .before .before .before .before .before .tidy-large .ensures in let q = sym (result-whole R (g .text .now)) in (w .0 ∙ ap (λ (xs : List ℕ). wholeAnswer large (g .form) (g .mode) s (g .text .now) xs (length (g .out .now)) (length (g .orig .now))) q, ((w .1 .0 .0 ∙ ap (λ (xs : List ℕ). outAfter y xs (g .out .now)) q, w .1 .0 .1), w .1 .1 ∙ ap (λ (xs : List ℕ). outAfter y xs (g .orig .now)) (sym (origins-whole (mode-lined (g .mode)) (g .form) (g .text .now)))))
 
 pub optimize-large-spec : {M : Type 1} → statement M
 optimize-large-spec =

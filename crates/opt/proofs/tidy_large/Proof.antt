@@ -34,7 +34,7 @@ returns : tie.Need-returns
 returns c = let g = c .before .before .before .before .before .before .before .before .before .before .before .before .before .before .before .before .before .before .before .before .before .before .before .before .before .before .args in let s = isShort large (length (g .a .now)) (length (g .b .now)) (length (g .c .now)) (length (g .d .now)) (length (g .e .now)) (length (g .u .now)) in let xs = resultOf (stepsOf (readingOf (g .mode)) (g .from) (g .to - g .from)) (g .text .now) in let y = c .refused-task .result in let p = short-answer y large (g .form) (g .mode) s (g .text .now) xs (length (g .out .now)) (length (g .orig .now)) (sym (c .before .before .tables-short .ensures) ∙ c .before .if1 .taken) (c .refused-task .ensures ∙ ap (λ (m : Task). inMode (m .mode .0) (checked (m .limits) (m .form) true (g .text .now) (Done 0))) (c .before .before .before .task .ensures ∙ ap (λ (L : Limits). taskOf L (g .from) (g .to) (g .mode) (g .form)) (c .before .before .before .before .large .ensures))) in (p .0, ((out-kept y xs (g .out .now) (p .1 .0), large-kept large y (g .a .now) (g .b .now) (g .c .now) (g .d .now) (g .e .now) (g .f .now) (g .g .now) (g .h .now) (g .u .now) (g .v .now) (g .w .now) (g .x .now) (g .p .now) (g .q .now) (g .r .now) (g .t .now) (g .own .now) (g .table .now) (p .1 .1)), out-kept y _ (g .orig .now) (p .1 .0)))
 
 tidy-lined-requires : tie.Need-tidy-lined-requires
-tidy-lined-requires c κs = let k = tall-by {L = large} (sym (c .before .before .before .before .before .before .before .before .before .before .before .before .before .before .before .before .before .before .before .before .before .tables-short .ensures) ∙ c .before .before .before .before .before .before .before .before .before .before .before .before .before .before .before .before .before .before .before .before .if1 .left) in rw (c .before .before .before .before .before .before .before .before .before .before .before .before .before .before .before .before .before .before .before .before .before .before .task .ensures, c .before .before .before .before .before .before .before .before .before .before .before .before .before .before .before .before .before .before .before .before .before .before .before .large .ensures) (sane-large, ((omega arith, omega arith), (k .0, k .1)))
+tidy-lined-requires c κs = let k = tall-by large (sym (c .before .before .before .before .before .before .before .before .before .before .before .before .before .before .before .before .before .before .before .before .before .tables-short .ensures) ∙ c .before .before .before .before .before .before .before .before .before .before .before .before .before .before .before .before .before .before .before .before .if1 .left) in rw (c .before .before .before .before .before .before .before .before .before .before .before .before .before .before .before .before .before .before .before .before .before .before .task .ensures, c .before .before .before .before .before .before .before .before .before .before .before .before .before .before .before .before .before .before .before .before .before .before .before .large .ensures) (sane-large, ((omega arith, omega arith), (k .0, k .1)))
 
 same-length : tie.Need-same-length
 same-length c = c .before .before .before .before .before .before .before .before .before .before .before .before .before .before .before .before .before .before .before .before .before .before .before .before .before .before .before .before .before .before .before .before .before .before .before .before .before .before .before .before .tidy-lined .kept .1 .1 .1 .1 .1 .1 .0
