@@ -12,6 +12,8 @@ ARCHIVE = target/staticlib/libcapi.a
 SHARED = target/lib/liboptlines.so.3
 SCRIPT = optlines
 VIEW_SCRIPT = optview
+LARGE = target/bin/optlarge
+LARGE_SCRIPT = optlarge
 FRONT = tools/front.sh
 RUN_BUILT = tools/run-built
 VERSION = VERSION
@@ -23,11 +25,12 @@ RECORDS_SHARED = target/lib/liboptrecords.so.1
 
 to = $(DESTDIR)$(PREFIX)
 own = libexec/optlines
-installed = bin/optlines bin/optview $(own)/optlines $(own)/optview $(own)/front.sh \
+installed = bin/optlines bin/optlarge bin/optview $(own)/optlines $(own)/optlarge \
+	$(own)/optview $(own)/front.sh \
 	$(own)/run-built $(own)/VERSION $(own)/TOOLCHAIN share/man/man1/optlines.1 \
-	share/man/man1/optview.1 include/optlines.h lib/liboptlines.a \
+	share/man/man1/optlarge.1 share/man/man1/optview.1 include/optlines.h lib/liboptlines.a \
 	lib/liboptlines.so.3 lib/liboptlines.so lib/pkgconfig/optlines.pc
-exported = optlines_optimize optlines_run_pass
+exported = optlines_optimize optlines_run_pass optlines_optimize_large optlines_run_pass_large
 maker = lib
 
 records_exported = optrecords_check optrecords_record optrecords_lines optrecords_to_ol \
@@ -38,7 +41,8 @@ link = $$([ "$$(uname -m)" = x86_64 ] && echo cc || echo x86_64-linux-gnu-gcc)
 
 all:
 	@missing=; \
-	for each in "$(PROGRAM)|rt check optlines" "$(VIEW)|rt check optview" \
+	for each in "$(PROGRAM)|rt check optlines" "$(LARGE)|rt check optlarge" \
+	    "$(LARGE_SCRIPT)|git checkout $(LARGE_SCRIPT)" "$(VIEW)|rt check optview" \
 	    "$(ARCHIVE)|make lib" "$(SHARED)|make lib" "$(SCRIPT)|git checkout $(SCRIPT)" \
 	    "$(VIEW_SCRIPT)|git checkout $(VIEW_SCRIPT)" "$(FRONT)|git checkout $(FRONT)" \
 	    "$(RUN_BUILT)|git checkout $(RUN_BUILT)" "$(VERSION)|git checkout $(VERSION)" \
@@ -60,7 +64,7 @@ help:
 	echo "make shared     writes $(SHARED) from $(ARCHIVE), as it is"; \
 	echo "make records    proves the library for record files (rt staticlib recordcapi) and writes"; \
 	echo "                $(RECORDS_ARCHIVE) and $(RECORDS_SHARED)"; \
-	echo "make install    installs optlines and optview, man pages, the header, both libraries and"; \
+	echo "make install    installs optlines, optlarge and optview, man pages, the header, both libraries and"; \
 	echo "                optlines.pc under PREFIX ($(PREFIX)); DESTDIR goes before it"; \
 	echo "make uninstall  removes them, with the same PREFIX and DESTDIR"; \
 	echo "make help       prints this"; \
@@ -99,14 +103,17 @@ records-shared:
 install: all
 	install -d "$(to)/bin" "$(to)/$(own)" "$(to)/share/man/man1" "$(to)/include" "$(to)/lib/pkgconfig"
 	install -m 755 "$(SCRIPT)" "$(to)/bin/optlines"
+	install -m 755 "$(LARGE_SCRIPT)" "$(to)/bin/optlarge"
 	install -m 755 "$(VIEW_SCRIPT)" "$(to)/bin/optview"
 	install -m 755 "$(PROGRAM)" "$(to)/$(own)/optlines"
+	install -m 755 "$(LARGE)" "$(to)/$(own)/optlarge"
 	install -m 755 "$(VIEW)" "$(to)/$(own)/optview"
 	install -m 755 "$(RUN_BUILT)" "$(to)/$(own)/run-built"
 	install -m 644 "$(FRONT)" "$(to)/$(own)/front.sh"
 	install -m 644 "$(VERSION)" "$(to)/$(own)/VERSION"
 	install -m 644 "$(TOOLCHAIN)" "$(to)/$(own)/TOOLCHAIN"
 	install -m 644 man/optlines.1 "$(to)/share/man/man1/optlines.1"
+	install -m 644 man/optlarge.1 "$(to)/share/man/man1/optlarge.1"
 	install -m 644 man/optview.1 "$(to)/share/man/man1/optview.1"
 	install -m 644 include/optlines.h "$(to)/include/optlines.h"
 	install -m 644 "$(ARCHIVE)" "$(to)/lib/liboptlines.a"

@@ -1,4 +1,5 @@
 """Made listings for the benchmark: each family is a way to go on, line after line, up to a size."""
+import re
 
 
 def function(name, body):
@@ -268,6 +269,128 @@ def zero_temps():
     return some_temps(lambda n: "t0%d" % n)
 
 
+def many_registers():
+    """One function that goes on and on over 200 registers, each of them stored again and again."""
+    yield "function main(a) {"
+    yield "  let " + ", ".join("r%d" % n for n in range(200)) + ";"
+    n = 0
+    while True:
+        k = n * 7 % 199
+        yield "  r%d = a.p%d;" % (k, n % 5)
+        yield "  r%d = f(r%d, %d);" % (k + 1, k, n)
+        yield "  out.put(r%d, r%d);" % (k + 1, n * 3 % 200)
+        n += 1
+
+
+def each_once():
+    """One function in which each register is stored once, from those before it, and declared where it is stored."""
+    yield "function main(a) {"
+    yield "  let r0 = a;"
+    n = 1
+    while True:
+        yield "  let r%d;" % n
+        yield "  r%d = f(r%d, r%d);" % (n, n - 1, n // 2)
+        n += 1
+
+
+def read_late(size):
+    """One function of some size: each register is read by the next line, and all of them are read again at its end."""
+    yield "function main(a) {"
+    many = max(1, size // 44)
+    for n in range(many):
+        yield "  r%d = a.p%d;" % (n, n % 5)
+        yield "  use(r%d);" % n
+    for n in range(many):
+        yield "  keep(r%d);" % n
+    yield "}"
+
+
+def pairs():
+    """One function: each register is stored and sent on, twice."""
+    yield "function main(a) {"
+    n = 0
+    while True:
+        for call in ("use", "keep"):
+            yield "  r%d = a.p%d;" % (n, n % 5)
+            yield "  %s(r%d, a);" % (call, n)
+        n += 1
+
+
+def one_declaration(size):
+    """One declaration of many registers, some 20,000 in a listing of 900,000 bytes, and their uses."""
+    many = max(1, size // 44)
+    yield "function main(a) {"
+    yield "  let " + ", ".join("r%d" % n for n in range(many)) + ";"
+    for n in range(many):
+        yield "  r%d = a.p%d;" % (n, n % 5)
+        yield "  use(r%d);" % n
+    yield "}"
+
+
+def long_calls():
+    """Calls with 60 values each, which are stored on the lines above."""
+    n = 0
+    while True:
+        yield "function l%d(o) {" % n
+        yield "  let " + ", ".join("r%d" % k for k in range(60)) + ";"
+        for k in range(60):
+            yield "  r%d = o.part%d(%d);" % (k, k, n)
+        yield "  return join(" + ", ".join("r%d" % k for k in range(60)) + ");"
+        yield "}"
+        n += 1
+
+
+def deep_blocks():
+    """Functions with blocks in blocks, 200 deep, closed one by one."""
+    n = 0
+    while True:
+        yield "function k%d(a) {" % n
+        for k in range(200):
+            yield "%sif (a.k%d) {" % ("  " * (k % 20), k)
+            yield "%s  r%d = f(a, %d);" % ("  " * (k % 20), k % 30, k)
+        for k in range(200):
+            yield "%suse(r%d); }" % ("  " * (k % 20), k % 30)
+        yield "}"
+        n += 1
+
+
+def comments():
+    """Comments with code in them, and little else."""
+    n = 0
+    while True:
+        yield "/* r%d = 1; use(r%d); { not a block } */" % (n % 60, n % 60)
+        yield "// let r%d = f(\"x\"); /* and so on" % (n % 60)
+        yield "  /* a */ r%d = g(%d); // r%d" % (n % 60, n, n % 60)
+        n += 1
+
+
+def far_registers():
+    """The family `each_once` with numbers from a million on."""
+    return (re.sub(r"\br(\d+)", lambda m: "r%d" % (1000000 + int(m.group(1))), line) for line in each_once())
+
+
+def data_table():
+    """Functions with tables of numbers in them, and registers with high numbers."""
+    n = 0
+    while True:
+        yield "function d%d(a) {" % n
+        yield "  let r%d, r%d;" % (200000 + 2 * n, 200001 + 2 * n)
+        yield "  r%d = [%s];" % (200000 + 2 * n, ", ".join(str(spread(20 * n + k) % 10**6) for k in range(20)))
+        yield "  r%d = f(r%d);" % (200001 + 2 * n, 200000 + 2 * n)
+        yield "  return r%d;" % (200001 + 2 * n)
+        yield "}"
+        n += 1
+
+
+def no_header():
+    """Lines with no function around them."""
+    n = 0
+    while True:
+        yield "r%d = a.p%d;" % (n % 90, n % 7)
+        yield "use(r%d, r%d);" % (n % 90, n % 50)
+        n += 1
+
+
 FAMILIES = {
     "small functions": small_functions,
     "large function": large_function,
@@ -293,11 +416,28 @@ FAMILIES = {
     "temps with zeros": zero_temps,
 }
 
+# Those of long listings that are not among the first.
+LONG = {
+    "many registers": many_registers,
+    "each once": each_once,
+    "read late": read_late,
+    "pairs": pairs,
+    "one declaration": one_declaration,
+    "long calls": long_calls,
+    "deep blocks": deep_blocks,
+    "comments": comments,
+    "far registers": far_registers,
+    "data table": data_table,
+    "no header": no_header,
+}
+SIZED = (read_late, one_declaration)  # that are told the size
+
 
 def listing(name, size, most_lines=1024):
     """The listing of a family, of at most so many bytes and lines."""
     lines, length = [], 0
-    for line in FAMILIES[name]():
+    family = FAMILIES.get(name) or LONG[name]
+    for line in family(size) if family in SIZED else family():
         length += len(line) + 1
         if length > size or len(lines) == most_lines:
             break

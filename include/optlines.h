@@ -4,7 +4,10 @@
  * NAME
  *     optlines_tidy - run all passes, or one, in buffers that are kept together
  *     optlines_optimize, optlines_run_pass - the same in buffers that are lent one by one
+ *     optlines_tidy_large - the same as optlines_tidy for larger texts
+ *     optlines_optimize_large, optlines_run_pass_large - and in buffers that are lent one by one
  *     optlines_lines, optlines_fate, optlines_line - the lines of a text, what a record says
+ *     optlines_record_size, optlines_fate_in, optlines_line_in - the same for records of any form
  *
  * LINKING
  *     The library is for x86-64 Linux. Installed (`make lib`, `make install`):
@@ -49,8 +52,8 @@
  *     took less, with a margin (tests/stack); nothing proves it. The stacks that Linux gives to
  *     threads by default have room for it, smaller ones may not.
  *
- *     Any number of threads may call at once, each with a struct optlines_work, or with lent
- *     buffers, of its own. They may share a text that none of them writes.
+ *     Any number of threads may call at once, each with a struct, or with lent buffers, of its own.
+ *     They may share a text that none of them writes.
  *
  * RECORDS
  *     The records of a text are a record file of the form OL, which include/optrecords.h reads. A
@@ -147,18 +150,67 @@
  *     others it is damaged, or in another encoding. Nothing else is refused. A later release may
  *     have more numbers, so treat every number but 0 as a refusal.
  *
+ * LARGER TEXTS
+ *     optlines_tidy_large(), optlines_optimize_large() and optlines_run_pass_large() take texts of
+ *     up to OPTLINES_LARGE_TEXT bytes and OPTLINES_LARGE_LINES lines, and write records in the form
+ *     that the caller asks for. To a text that the others take they give the same result.
+ *
+ *         0 OPTLINES_OL   the form above, with 2 bytes for each line
+ *         1 OPTLINES_OM   the mark `O` and `M`, and 4 bytes for each line, low byte first
+ *
+ *     Any number but 0 asks for OM. There a record has OPTLINES_LARGE_RECORD bytes: the line of the
+ *     text stands in bytes 2 to 5, the fate in byte 6 and the line of the result in bytes 7 to 10.
+ *     It is OPTLINES_LARGE_NO_LINE, 4,294,967,295, for a gone line. optlines_record_size() says how
+ *     long a record of a form is, optlines_fate_in() and optlines_line_in() what record i says.
+ *     include/optrecords.h reads files of either form.
+ *
+ *     The numbers are those above, with these in their places:
+ *
+ *         number                     when                                  place
+ *         2 OPTLINES_TOO_LONG        text is longer than 1,048,576 bytes   1048576
+ *         3 OPTLINES_SHORT_WORK      one of the eighteen work buffers is   0
+ *                                    shorter than stated
+ *         5 OPTLINES_TOO_MANY_LINES  more than 100,000 lines               100000
+ *        13 OPTLINES_WIDE_LINES      the form is OL, and text has more     65535
+ *                                    than OPTLINES_OL_LINES lines
+ *         8 OPTLINES_SHORT_RECORDS   orig is shorter than 7 bytes for      the length it needs
+ *                                    each line in OL, 11 in OM
+ *
+ *     13 is checked after 5 and before 6, and never answered for OM. It counts all lines of the
+ *     text, also those that go.
+ *
+ *     A struct optlines_large has all buffers in it, 28,544,392 bytes: keep it static or
+ *     allocate it, and do not put it on a stack. What is said above of a struct optlines_work holds
+ *     for it. Lent one by one there are eighteen work buffers:
+ *
+ *         buffers       elements of     at least                 bytes of each
+ *         a to e        uint8_t         OPTLINES_LARGE_BYTES     2,097,153
+ *         f, g          uint8_t         OPTLINES_LARGE_PLACES      262,143
+ *         h             uint8_t         OPTLINES_LARGE_LINES       100,000
+ *         u             uint32_t        OPTLINES_LARGE_BLOCKS    4,194,304
+ *         v, w, x       uint32_t        OPTLINES_LARGE_NOTES       800,000
+ *         p, q          size_t          OPTLINES_LARGE_LINES       800,000
+ *         r, t          size_t          OPTLINES_LARGE_PLACES    2,097,144
+ *         own           size_t          OPTLINES_LARGE_OWNERS    1,048,568
+ *         table         size_t          OPTLINES_LARGE_LINES       800,000
+ *
+ *     out is as above; for orig OPTLINES_LARGE_RECORDS bytes, 1,100,000, are always enough. A call
+ *     writes to the stated part of each work buffer, whatever the length of the text: where the
+ *     others take a text, they are faster.
+ *
  * MEMORY AFTER A CALL
- *         number   out, orig                                  a to e, u
- *         0        the result, the records, and behind each   0 in the first OPTLINES_BYTES or
- *                  what stood there before                    OPTLINES_BLOCKS, the rest as before
+ *         number   out, orig                                  each work buffer
+ *         0        the result, the records, and behind each   0 as far as its stated size, the
+ *                  what stood there before                    rest as before
  *         7, 8     as before                                  the same as after 0
  *         others   as before                                  as before
  *
  * WHAT IS PROVED
- *     The answer and every lent byte of optlines_optimize and optlines_run_pass, as above, for all
- *     arguments that meet what is said under BUFFERS LENT ONE BY ONE: the contracts of crate capi
- *     (docs/CONTRACTS.md). This file, and with it each inline function, is not part of the proof;
- *     tests/bindings calls what it declares, from C and C++.
+ *     The answer and every lent byte of optlines_optimize, optlines_run_pass,
+ *     optlines_optimize_large and optlines_run_pass_large, as above, for all arguments that meet
+ *     what is said under BUFFERS LENT ONE BY ONE: the contracts of crate capi (docs/CONTRACTS.md).
+ *     This file, and with it each inline function, is not part of the proof; tests/bindings calls
+ *     what it declares, from C and C++.
  *
  * EXAMPLE
  *     #include <optlines.h>
@@ -229,6 +281,29 @@
  *                 printf("line %zu is in line %zu\n", i, optlines_line(work.orig, i));
  *         return fflush(stdout) == 0 ? 0 : 2;
  *     }
+ *
+ * EXAMPLE WITH A LARGER TEXT
+ *     #include <optlines.h>
+ *     #include <stdio.h>
+ *     #include <stdlib.h>
+ *
+ *     static uint8_t text[OPTLINES_LARGE_TEXT + 1];
+ *
+ *     int main(void)
+ *     {
+ *         struct optlines_large *work = malloc(sizeof *work);
+ *         size_t length = fread(text, 1, sizeof text, stdin);
+ *         if (work == NULL || ferror(stdin))
+ *             return 2;
+ *
+ *         uint8_t number = optlines_tidy_large(work, 0, OPTLINES_PLAIN, OPTLINES_OM, text, length);
+ *         if (number != OPTLINES_DONE) {
+ *             fprintf(stderr, "refused %d %zu\n", number, work->place);
+ *             return 1;
+ *         }
+ *         size_t written = fwrite(work->out, 1, work->length, stdout);
+ *         return written == work->length && fflush(stdout) == 0 ? 0 : 2;
+ *     }
  */
 #ifndef OPTLINES_H
 #define OPTLINES_H
@@ -254,6 +329,26 @@ extern "C" {
 #define OPTLINES_RECORDS 7168
 #define OPTLINES_NO_LINE 65535
 
+/* For larger texts: the limits, and the lines that the form OL has numbers for. */
+#define OPTLINES_LARGE_TEXT 1048576
+#define OPTLINES_LARGE_LINES 100000
+#define OPTLINES_OL_LINES 65535
+
+/* Their work buffers: bytes of each of a to e, numbers of u, of v, w and x, of own, and elements of
+   f, g, r and t. h, p, q and table have an element for each line. */
+#define OPTLINES_LARGE_BYTES 2097153
+#define OPTLINES_LARGE_BLOCKS 1048576
+#define OPTLINES_LARGE_NOTES 200000
+#define OPTLINES_LARGE_OWNERS 131071
+#define OPTLINES_LARGE_PLACES 262143
+
+/* The forms of records, and of OM what OPTLINES_RECORD, _RECORDS and _NO_LINE are of OL. */
+#define OPTLINES_OL 0
+#define OPTLINES_OM 1
+#define OPTLINES_LARGE_RECORD 11
+#define OPTLINES_LARGE_RECORDS 1100000
+#define OPTLINES_LARGE_NO_LINE 4294967295
+
 /* The modes. */
 #define OPTLINES_PLAIN 0
 #define OPTLINES_STRICT 1
@@ -278,6 +373,7 @@ enum {
     OPTLINES_OVERLONG = 10,
     OPTLINES_OUTSIDE = 11,
     OPTLINES_BAD_MODE = 12,
+    OPTLINES_WIDE_LINES = 13,
     OPTLINES_OVERLAP = 255
 };
 
@@ -315,12 +411,80 @@ uint8_t optlines_run_pass(
     uint8_t *orig, size_t orig_length,
     size_t *length, size_t *place);
 
+uint8_t optlines_optimize_large(
+    size_t mode, size_t form,
+    const uint8_t *text, size_t text_length,
+    uint8_t *a, size_t a_length,
+    uint8_t *b, size_t b_length,
+    uint8_t *c, size_t c_length,
+    uint8_t *d, size_t d_length,
+    uint8_t *e, size_t e_length,
+    uint8_t *f, size_t f_length,
+    uint8_t *g, size_t g_length,
+    uint8_t *h, size_t h_length,
+    uint32_t *u, size_t u_length,
+    uint32_t *v, size_t v_length,
+    uint32_t *w, size_t w_length,
+    uint32_t *x, size_t x_length,
+    size_t *p, size_t p_length,
+    size_t *q, size_t q_length,
+    size_t *r, size_t r_length,
+    size_t *t, size_t t_length,
+    size_t *own, size_t own_length,
+    size_t *table, size_t table_length,
+    uint8_t *out, size_t out_length,
+    uint8_t *orig, size_t orig_length,
+    size_t *length, size_t *place);
+
+uint8_t optlines_run_pass_large(
+    size_t pass, size_t mode, size_t form,
+    const uint8_t *text, size_t text_length,
+    uint8_t *a, size_t a_length,
+    uint8_t *b, size_t b_length,
+    uint8_t *c, size_t c_length,
+    uint8_t *d, size_t d_length,
+    uint8_t *e, size_t e_length,
+    uint8_t *f, size_t f_length,
+    uint8_t *g, size_t g_length,
+    uint8_t *h, size_t h_length,
+    uint32_t *u, size_t u_length,
+    uint32_t *v, size_t v_length,
+    uint32_t *w, size_t w_length,
+    uint32_t *x, size_t x_length,
+    size_t *p, size_t p_length,
+    size_t *q, size_t q_length,
+    size_t *r, size_t r_length,
+    size_t *t, size_t t_length,
+    size_t *own, size_t own_length,
+    size_t *table, size_t table_length,
+    uint8_t *out, size_t out_length,
+    uint8_t *orig, size_t orig_length,
+    size_t *length, size_t *place);
+
 /* All that a call of optlines_tidy() writes. */
 struct optlines_work {
     uint8_t bytes[5][OPTLINES_BYTES];
     uint32_t blocks[OPTLINES_BLOCKS];
     uint8_t out[2 * OPTLINES_TEXT];
     uint8_t orig[OPTLINES_RECORDS];
+    size_t length;
+    size_t records;
+    size_t place;
+};
+
+/* All that a call of optlines_tidy_large() writes. */
+struct optlines_large {
+    uint8_t bytes[5][OPTLINES_LARGE_BYTES];
+    uint8_t flags[2][OPTLINES_LARGE_PLACES];
+    uint8_t line_flags[OPTLINES_LARGE_LINES];
+    uint32_t blocks[OPTLINES_LARGE_BLOCKS];
+    uint32_t notes[3][OPTLINES_LARGE_NOTES];
+    size_t lines[2][OPTLINES_LARGE_LINES];
+    size_t places[2][OPTLINES_LARGE_PLACES];
+    size_t owners[OPTLINES_LARGE_OWNERS];
+    size_t table[OPTLINES_LARGE_LINES];
+    uint8_t out[2 * OPTLINES_LARGE_TEXT];
+    uint8_t orig[OPTLINES_LARGE_RECORDS];
     size_t length;
     size_t records;
     size_t place;
@@ -348,14 +512,42 @@ static inline size_t optlines_line(const uint8_t *orig, size_t i)
     return line[0] | (size_t)line[1] << 8;
 }
 
-/* Whether a text and *work have a byte in common. */
-static inline int optlines_overlap(
-    const struct optlines_work *work, const uint8_t *text, size_t text_length)
+/* The bytes of a record of a form. */
+static inline size_t optlines_record_size(size_t form)
+{
+    return form == OPTLINES_OL ? OPTLINES_RECORD : OPTLINES_LARGE_RECORD;
+}
+
+/* The fate that record i of a record buffer of a form tells. */
+static inline uint8_t optlines_fate_in(size_t form, const uint8_t *orig, size_t i)
+{
+    return orig[optlines_record_size(form) * i + (form == OPTLINES_OL ? 4 : 6)];
+}
+
+/* The line of the result that record i of a record buffer of a form tells. */
+static inline size_t optlines_line_in(size_t form, const uint8_t *orig, size_t i)
+{
+    const uint8_t *line = orig + OPTLINES_LARGE_RECORD * i + 7;
+    if (form == OPTLINES_OL)
+        return optlines_line(orig, i);
+    return line[0] | (size_t)line[1] << 8 | (size_t)line[2] << 16 | (size_t)line[3] << 24;
+}
+
+/* Whether a text and so many bytes of work have one in common. */
+static inline int optlines_common(
+    const void *work, size_t size, const uint8_t *text, size_t text_length)
 {
     uintptr_t from = (uintptr_t)work, at = (uintptr_t)text;
     if (text_length == 0)
         return 0;
-    return at < from ? from - at < text_length : at - from < sizeof *work;
+    return at < from ? from - at < text_length : at - from < size;
+}
+
+/* Whether a text and *work have a byte in common. */
+static inline int optlines_overlap(
+    const struct optlines_work *work, const uint8_t *text, size_t text_length)
+{
+    return optlines_common(work, sizeof *work, text, text_length);
 }
 
 static inline uint8_t optlines_tidy(
@@ -378,6 +570,39 @@ static inline uint8_t optlines_tidy(
             &work->length, &work->place);
     if (number == OPTLINES_DONE)
         work->records = optlines_lines(text, text_length);
+    return number;
+}
+
+static inline uint8_t optlines_tidy_large(
+    struct optlines_large *w, size_t pass, size_t mode, size_t form,
+    const uint8_t *text, size_t text_length)
+{
+    const size_t n = OPTLINES_LARGE_BYTES, places = OPTLINES_LARGE_PLACES;
+    const size_t lines = OPTLINES_LARGE_LINES, notes = OPTLINES_LARGE_NOTES;
+    uint8_t number;
+    w->length = w->records = w->place = 0;
+    if (optlines_common(w, sizeof *w, text, text_length))
+        return OPTLINES_OVERLAP;
+    if (pass == 0)
+        number = optlines_optimize_large(mode, form, text, text_length,
+            w->bytes[0], n, w->bytes[1], n, w->bytes[2], n, w->bytes[3], n, w->bytes[4], n,
+            w->flags[0], places, w->flags[1], places, w->line_flags, lines,
+            w->blocks, OPTLINES_LARGE_BLOCKS,
+            w->notes[0], notes, w->notes[1], notes, w->notes[2], notes,
+            w->lines[0], lines, w->lines[1], lines, w->places[0], places, w->places[1], places,
+            w->owners, OPTLINES_LARGE_OWNERS, w->table, lines,
+            w->out, sizeof w->out, w->orig, sizeof w->orig, &w->length, &w->place);
+    else
+        number = optlines_run_pass_large(pass, mode, form, text, text_length,
+            w->bytes[0], n, w->bytes[1], n, w->bytes[2], n, w->bytes[3], n, w->bytes[4], n,
+            w->flags[0], places, w->flags[1], places, w->line_flags, lines,
+            w->blocks, OPTLINES_LARGE_BLOCKS,
+            w->notes[0], notes, w->notes[1], notes, w->notes[2], notes,
+            w->lines[0], lines, w->lines[1], lines, w->places[0], places, w->places[1], places,
+            w->owners, OPTLINES_LARGE_OWNERS, w->table, lines,
+            w->out, sizeof w->out, w->orig, sizeof w->orig, &w->length, &w->place);
+    if (number == OPTLINES_DONE)
+        w->records = optlines_lines(text, text_length);
     return number;
 }
 

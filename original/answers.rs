@@ -4,17 +4,18 @@ mod ends;
 mod judge;
 mod wire;
 
-use judge::{Answer, Asked, Manner, MOST_BYTES, WORK};
+use judge::{Answer, Asked, Manner, OL, OM, SECOND};
 use wire::Wire;
 
-fn read(wire: &mut Wire) -> Option<Asked> {
+fn read(wire: &mut Wire, manner: &Manner) -> Option<Asked> {
     Some(Asked {
         pass: wire.one()?,
         mode: wire.one()?,
+        form: if manner.forms { wire.one()?.min(OM) } else { OL },
         short: wire.one()?,
         room: wire.four()?,
         records: wire.four()?,
-        text: wire.text(MOST_BYTES as u64 + 1)?,
+        text: wire.text(manner.limits.bytes as u64 + 1)?,
     })
 }
 
@@ -29,14 +30,15 @@ fn write(wire: &mut Wire, answer: &Answer) -> Option<()> {
 fn serve(wire: &mut Wire, manner: &Manner) -> Option<()> {
     loop {
         wire.ready()?;
-        let asked = read(wire)?;
+        let asked = read(wire, manner)?;
         write(wire, &judge::answer(&asked, manner))?;
     }
 }
 
 fn manner(words: &[String]) -> Option<Manner> {
     match words {
-        [] => Some(Manner { work: WORK, records: true }),
+        [] => Some(Manner::FIRST),
+        [first, rest @ ..] if first == "--large" => Some(Manner { limits: SECOND, forms: true, ..manner(rest)? }),
         [first, rest @ ..] if first == "--texts" => Some(Manner { records: false, ..manner(rest)? }),
         [first, number, rest @ ..] if first == "--work" => Some(Manner { work: number.parse().ok()?, ..manner(rest)? }),
         _ => None,
@@ -45,7 +47,7 @@ fn manner(words: &[String]) -> Option<Manner> {
 
 fn main() {
     let words: Vec<String> = std::env::args().skip(1).collect();
-    let manner = manner(&words).unwrap_or_else(|| wire::usage("answers [--work N] [--texts], N at most 255"));
+    let manner = manner(&words).unwrap_or_else(|| wire::usage("answers [--large] [--work N] [--texts], N at most 255"));
     // a panic of the original is answered, not printed
     std::panic::set_hook(Box::new(|_| {}));
     serve(&mut Wire::new(), &manner);

@@ -66,18 +66,18 @@ pub mod carried {
     const OTHER: u8 = 1;
     const TAKEN: u8 = 2;
     const GONE: u8 = 3;
-    /// The output line of a gone line.
-    const NOWHERE: u16 = 65_535;
+    /// The fate of a line and its output line, which a gone line has not.
+    pub type Fate = (u8, Option<usize>);
 
     /// A result, and the fate and the output line of each line of the text.
-    pub type Traced = (String, Vec<(u8, u16)>);
+    pub type Traced = (String, Vec<Fate>);
 
-    fn fates(text: &str, lines: &[Carried]) -> Vec<(u8, u16)> {
+    fn fates(text: &str, lines: &[Carried]) -> Vec<Fate> {
         let raw: Vec<&str> = text.lines().collect();
-        let mut all = vec![(GONE, NOWHERE); raw.len()];
+        let mut all = vec![(GONE, None); raw.len()];
         let mut say = |input: usize, fate: u8, output: usize| {
             assert_eq!(all[input].0, GONE, "a line has come into two");
-            all[input] = (fate, output as u16);
+            all[input] = (fate, Some(output));
         };
         for (output, line) in lines.iter().enumerate() {
             say(line.stands, if line.text == raw[line.stands] { EQUAL } else { OTHER }, output);

@@ -10,6 +10,33 @@ pub const MOST_ROOM: u32 = 32_768;
 /// The bytes of a record, and the most that are lent for records: some more than those of as many lines as a text may have.
 pub const RECORD: usize = 7;
 pub const MOST_RECORDS: u32 = (RECORD * MOST_LINES) as u32 + 8;
+/// The same of the second pair, whose records may have the second form.
+pub const LARGE_BYTES: usize = 1_048_576;
+pub const LARGE_LINES: usize = 100_000;
+pub const WIDE_RECORD: usize = 11;
+/// The lines that the first form of a record has numbers for, which is also its number for gone.
+pub const OL_LINES: usize = 65_535;
+
+/// The forms of a record.
+pub const OL: u8 = 0;
+pub const OM: u8 = 1;
+
+/// The limits of a pair of entries: the most bytes and lines of a text, and the most that is lent for a result and for records.
+pub struct Limits {
+    pub bytes: usize,
+    pub lines: usize,
+    pub room: u32,
+    pub records: u32,
+}
+
+pub const FIRST: Limits = Limits { bytes: MOST_BYTES, lines: MOST_LINES, room: MOST_ROOM, records: MOST_RECORDS };
+pub const SECOND: Limits = Limits {
+    bytes: LARGE_BYTES,
+    lines: LARGE_LINES,
+    room: 2 * LARGE_BYTES as u32,
+    records: (WIDE_RECORD * LARGE_LINES) as u32 + 8,
+};
+
 /// What lent buffers are filled with.
 pub const FILLED: u8 = 165;
 /// The number of lent work buffers.
@@ -30,16 +57,24 @@ pub const CARRIED_OTHER: u8 = 253;
 pub struct Asked {
     pub pass: u8,
     pub mode: u8,
+    pub form: u8,
     pub short: u8,
     pub room: u32,
     pub records: u32,
     pub text: Vec<u8>,
 }
 
-/// How requests are answered: how many work buffers are lent, and whether records are written.
+/// How requests are answered: by which pair of entries, whether a request names the form of the records, how many work buffers are lent, and whether
+/// records are written.
 pub struct Manner {
+    pub limits: Limits,
+    pub forms: bool,
     pub work: u8,
     pub records: bool,
+}
+
+impl Manner {
+    pub const FIRST: Manner = Manner { limits: FIRST, forms: false, work: WORK, records: true };
 }
 
 /// What is told: the number, the place, the result, and the whole of the lent record buffer.
@@ -77,22 +112,27 @@ fn utf8(text: &[u8]) -> Result<&str, Refused> {
 }
 
 /// The text, if no refusal but 7 and 8 holds.
-fn accepted(asked: &Asked, work: u8) -> Result<&str, Refused> {
+fn accepted<'a>(asked: &'a Asked, manner: &Manner) -> Result<&'a str, Refused> {
+    let limits = &manner.limits;
     if asked.pass > 6 {
         return Err((1, 0));
     }
     if !MODES.contains(&asked.mode) {
         return Err((12, 0));
     }
-    if asked.text.len() > MOST_BYTES {
-        return Err((2, MOST_BYTES));
+    if asked.text.len() > limits.bytes {
+        return Err((2, limits.bytes));
     }
-    if (1..=work).contains(&asked.short) {
+    if (1..=manner.work).contains(&asked.short) {
         return Err((3, 0));
     }
     let text = utf8(&asked.text)?;
-    if text.lines().count() > MOST_LINES {
-        return Err((5, MOST_LINES));
+    let lines = text.lines().count();
+    if lines > limits.lines {
+        return Err((5, limits.lines));
+    }
+    if asked.form == OL && lines > OL_LINES {
+        return Err((13, OL_LINES));
     }
     crowded_line(text).map_or(Ok(text), |line| Err((6, line)))
 }
@@ -115,7 +155,7 @@ fn entries(mode: u8) -> Entries<String> {
 }
 
 /// The copy for a mode that carries origins: it gives the fate and the output line of each line too.
-fn carrying_entries(mode: u8) -> Entries<(String, Vec<(u8, u16)>)> {
+fn carrying_entries(mode: u8) -> Entries<(String, Vec<(u8, Option<usize>)>)> {
     match mode {
         PLAIN => (opt_carrying::carried::whole, opt_carrying::carried::one_pass),
         STRICT => (strict_carrying::carried::whole, strict_carrying::carried::one_pass),
@@ -130,31 +170,45 @@ fn caught<T>(work: impl FnOnce() -> T) -> Result<T, Refused> {
 }
 
 /// The text and its result, if no refusal but 7 and 8 holds.
-pub fn result(asked: &Asked, work: u8) -> Result<(&str, String), Refused> {
-    let text = accepted(asked, work)?;
+pub fn result<'a>(asked: &'a Asked, manner: &Manner) -> Result<(&'a str, String), Refused> {
+    let text = accepted(asked, manner)?;
     if !ends::pass_ends(asked.pass, asked.mode, text) {
         return Err((SKIPPED, 0));
     }
     Ok((text, caught(|| run(entries(asked.mode), asked.pass, text))?))
 }
 
-/// Document 02's request 1: the mark, the input line, the fate and the output line of each line.
-fn records_of(fates: Vec<(u8, u16)>) -> Vec<u8> {
-    let record = |(line, (fate, output)): (usize, (u8, u16))| {
-        let [low, high] = (line as u16).to_le_bytes();
-        let [output_low, output_high] = output.to_le_bytes();
-        [b'O', b'L', low, high, fate, output_low, output_high]
-    };
-    fates.into_iter().enumerate().flat_map(record).collect()
+/// The bytes of a record of a form.
+fn record_size(form: u8) -> usize {
+    if form == OL { RECORD } else { WIDE_RECORD }
+}
+
+/// Document 02's requests 1 and 8: the mark, the input line, the fate and the output line of each line, in a form.
+fn records_of(form: u8, fates: Vec<(u8, Option<usize>)>) -> Vec<u8> {
+    let mut out = Vec::new();
+    for (line, (fate, output)) in fates.into_iter().enumerate() {
+        if form == OL {
+            out.extend(b"OL");
+            out.extend((line as u16).to_le_bytes());
+            out.push(fate);
+            out.extend(output.map_or(65_535, |n| n as u16).to_le_bytes());
+        } else {
+            out.extend(b"OM");
+            out.extend((line as u32).to_le_bytes());
+            out.push(fate);
+            out.extend(output.map_or(4_294_967_295, |n| n as u32).to_le_bytes());
+        }
+    }
+    out
 }
 
 /// The result, with the records at the front of their buffer; or the refusal, the buffer as it was.
 fn written(asked: &Asked, manner: &Manner, records: &mut [u8]) -> Result<String, Refused> {
-    let (text, result) = result(asked, manner.work)?;
-    if result.len() > asked.room.min(MOST_ROOM) as usize {
+    let (text, result) = result(asked, manner)?;
+    if result.len() > asked.room.min(manner.limits.room) as usize {
         return Err((7, result.len()));
     }
-    let need = RECORD * text.lines().count();
+    let need = record_size(asked.form) * text.lines().count();
     if records.len() < need {
         return Err((8, need));
     }
@@ -163,13 +217,13 @@ fn written(asked: &Asked, manner: &Manner, records: &mut [u8]) -> Result<String,
         if carried != result {
             return Err((CARRIED_OTHER, 0));
         }
-        records[..need].copy_from_slice(&records_of(fates));
+        records[..need].copy_from_slice(&records_of(asked.form, fates));
     }
     Ok(result)
 }
 
 pub fn answer(asked: &Asked, manner: &Manner) -> Answer {
-    let mut records = vec![FILLED; asked.records.min(MOST_RECORDS) as usize];
+    let mut records = vec![FILLED; asked.records.min(manner.limits.records) as usize];
     let (number, place, result) = match written(asked, manner, &mut records) {
         Ok(result) => (0, 0, result.into_bytes()),
         Err((number, place)) => (number, place as u32, Vec::new()),

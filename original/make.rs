@@ -11,7 +11,7 @@ mod rules;
 mod texts;
 mod wire;
 
-use judge::{Asked, MODES, MOST_LINES, MOST_RECORDS, MOST_ROOM, PLAIN, RECORD, WORK};
+use judge::{Asked, Manner, MODES, MOST_LINES, MOST_RECORDS, MOST_ROOM, OL, OM, PLAIN, RECORD, SECOND, WORK};
 use random::Random;
 use texts::{Alphabet, Texts};
 use wire::Wire;
@@ -146,7 +146,7 @@ fn open_pass(r: &mut Random) -> u8 {
 
 /// A result buffer of exactly the length, a little more or less, or none.
 fn near_room(r: &mut Random, asked: &Asked) -> u32 {
-    let length = judge::result(asked, WORK).map_or(0, |(_, result)| result.len() as u32);
+    let length = judge::result(asked, &Manner::FIRST).map_or(0, |(_, result)| result.len() as u32);
     match r.below(5) {
         0 => length,
         1 => length.saturating_sub(1),
@@ -177,14 +177,23 @@ fn near_records(r: &mut Random, need: u32, of: usize) -> u32 {
 
 /// A request in which nothing is too short.
 fn in_room(pass: u8, mode: u8, text: Vec<u8>) -> Asked {
-    Asked { pass, mode, short: 0, room: MOST_ROOM, records: records_for(&text) + SPARE, text }
+    Asked { pass, mode, form: OL, short: 0, room: MOST_ROOM, records: records_for(&text) + SPARE, text }
 }
 
-fn write(wire: &mut Wire, asked: &Asked) -> Option<()> {
-    wire.put(&[asked.pass, asked.mode, asked.short])?;
+/// A request; one for the second pair names the form of its records too.
+fn write_to(wire: &mut Wire, asked: &Asked, forms: bool) -> Option<()> {
+    wire.put(&[asked.pass, asked.mode])?;
+    if forms {
+        wire.put(&[asked.form])?;
+    }
+    wire.put(&[asked.short])?;
     wire.put(&asked.room.to_le_bytes())?;
     wire.put(&asked.records.to_le_bytes())?;
     wire.put_text(&asked.text)
+}
+
+fn write(wire: &mut Wire, asked: &Asked) -> Option<()> {
+    write_to(wire, asked, false)
 }
 
 fn requests(wire: &mut Wire, seed: u64, count: u64) -> Option<()> {
@@ -231,8 +240,20 @@ fn cut_texts(wire: &mut Wire, seed: u64, count: u64) -> Option<()> {
     })
 }
 
+/// Requests for the second pair, in which nothing is too short: long texts, and some at the limits.
+fn large_texts(wire: &mut Wire, seed: u64, count: u64) -> Option<()> {
+    let texts = Texts::new();
+    (0..count).try_for_each(|index| {
+        let r = &mut Random::new(seed, index);
+        let (pass, mode) = (r.below(10).saturating_sub(3) as u8, MODES[r.below(MODES.len())]);
+        let text = texts.large(r, pass, mode);
+        let form = if r.chance(50) { OL } else { OM };
+        write_to(wire, &Asked { pass, mode, form, short: 0, room: SECOND.room, records: SECOND.records, text }, true)
+    })
+}
+
 fn number(word: Option<&String>) -> u64 {
-    let usage = "make SEED COUNT | make leaves SEED COUNT [FUNCTION..] | make all ALPHABET TOKENS [PASS..] | make open SEED COUNT | make flaws SEED COUNT | make flaws all BYTES | make cuts SEED COUNT";
+    let usage = "make SEED COUNT | make leaves SEED COUNT [FUNCTION..] | make all ALPHABET TOKENS [PASS..] | make open SEED COUNT | make flaws SEED COUNT | make flaws all BYTES | make cuts SEED COUNT | make large SEED COUNT";
     word.and_then(|w| w.parse().ok()).unwrap_or_else(|| wire::usage(usage))
 }
 
@@ -256,6 +277,7 @@ fn main() {
         }
         Some("open") => open_texts(&mut wire, number(words.get(1)), number(words.get(2))),
         Some("cuts") => cut_texts(&mut wire, number(words.get(1)), number(words.get(2))),
+        Some("large") => large_texts(&mut wire, number(words.get(1)), number(words.get(2))),
         Some("all") => {
             let passes = if words.len() > 3 { numbers(&words) } else { (0..=6).collect() };
             let named = words.get(1).and_then(|name| Alphabet::of(name));

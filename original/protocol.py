@@ -57,9 +57,13 @@ class Texts:
     RECORD = struct.Struct("<2sHBH")  # mark, input line, fate, output line
 
     @staticmethod
+    def lines_of(text):
+        return text.count(b"\n") + (text[-1:] not in (b"", b"\n"))
+
+    @staticmethod
     def records_of(text):
         """The bytes that the records of a text take."""
-        return Texts.RECORD.size * (text.count(b"\n") + (text[-1:] not in (b"", b"\n")))
+        return Texts.RECORD.size * Texts.lines_of(text)
 
     @staticmethod
     def request(which, mode, room, text, short=0):
@@ -127,6 +131,45 @@ class Texts:
         if same:
             told.append(f"then {same} bytes {rest[0]:02x}, {rest[same:][:40].hex(' ') or 'no more'}")
         return " ".join(told) or "none"
+
+
+class Large(Texts):
+    """Requests for the second pair of entries, whose records may have either form, and their answers."""
+
+    HEAD = struct.Struct("<BBBBIII")  # pass, mode, form, short, room, records, length; the text follows
+    SIZES = (Texts.RECORD.size, struct.calcsize("<2sIBI"))  # of a record of each form
+    MOST_LINES, MOST_ROOM = 100000, 2097152
+    MOST_RECORDS = SIZES[1] * MOST_LINES + 8
+
+    @staticmethod
+    def request(which, mode, form, text):
+        """A request in which nothing is too short."""
+        return Large.HEAD.pack(which, mode, form, 0, Large.MOST_ROOM, Large.MOST_RECORDS, len(text)) + text
+
+    @staticmethod
+    def text(request):
+        return request[Large.HEAD.size :]
+
+    @staticmethod
+    def request_end(data, at):
+        return at + Large.HEAD.size + Large.HEAD.unpack_from(data, at)[6]
+
+    @staticmethod
+    def answer_of(number, place, result, records, lent):
+        """An answer: the record buffer has the records in front, and behind them what was there."""
+        buffer = records + b"\xa5" * (lent - len(records))
+        return Large.TOLD.pack(number, 1, len(result), place) + result + struct.pack("<I", lent) + buffer
+
+    @staticmethod
+    def show_request(request):
+        which, mode, form, short, room, records, length = Large.HEAD.unpack_from(request)
+        head = f"pass {which}, mode {mode}, form {form}, {length} bytes"
+        return f"{head}:\n{shown(Large.text(request)[:2000])}"
+
+    @staticmethod
+    def show_answer(answer):
+        number, memory, place, result, records = Texts.answer(answer)
+        return f"number {number}, length {len(result)}, place {place}, records {records[:22].hex(' ')}.."
 
 
 class Prunings:

@@ -1,7 +1,7 @@
 //! The kinds of made texts: listings, soup, damage, short texts, and texts at the limits.
 
 use crate::grammar::Grammar;
-use crate::judge::{MOST_BRACKETS, MOST_BYTES, MOST_LINES};
+use crate::judge::{LARGE_BYTES, LARGE_LINES, MOST_BRACKETS, MOST_BYTES, MOST_LINES, OL_LINES, PLAIN, STRICT};
 use crate::numbers;
 use crate::random::Random;
 use crate::rules::{CHARACTERS, JUDGED, LINES, LITERALS, LITERAL_LINES, LITERAL_VALUES, OPEN, OPEN_FRAMES, OPEN_LINES, OPEN_PIECES};
@@ -52,6 +52,18 @@ fn place(random: &mut Random, text: &[u8]) -> usize {
 
 fn put(text: &mut Vec<u8>, at: usize, bytes: &[u8]) {
     text.splice(at..at, bytes.iter().copied());
+}
+
+/// Short lines, as many as the first form of records has numbers for, as a large text may have, or one more or less.
+fn many_lines(random: &mut Random) -> Vec<u8> {
+    let line = random.pick(&["", "a;", "}", "r1 = 2;"]);
+    let most = if random.chance(50) { OL_LINES } else { LARGE_LINES };
+    let count = random.between(most - 1, most + 1);
+    let mut text = (line.to_string() + "\n").repeat(count);
+    if random.chance(30) {
+        text.pop();
+    }
+    text.into_bytes()
 }
 
 /// Some UTF-8 sequence, most often a bad one, put anywhere.
@@ -337,6 +349,54 @@ impl Texts {
             whole.split_inclusive('\n').map(|l| if random.chance(30) { l.to_string() + &open_lines(random) } else { l.to_string() }).collect()
         };
         self.weathered(random, text)
+    }
+
+    /// A part of a large text: a listing of some kind that ends its last line, in a function of its own or not.
+    fn part(&self, random: &mut Random, pass: u8) -> Vec<u8> {
+        let mut text = match random.below(20) {
+            0 => self.long_listing(random),
+            1 => self.special(random),
+            2 | 3 => self.open(random),
+            4 => soup(random, 40).into_bytes(),
+            5 => quoted(random).into_bytes(),
+            _ => self.listing(random, pass),
+        };
+        if text.last().is_some_and(|b| *b != b'\n') {
+            text.push(b'\n');
+        }
+        if random.chance(60) {
+            put(&mut text, 0, format!("function f{}(a) {{\n", random.below(1_000)).as_bytes());
+            text.extend_from_slice(b"}\n");
+        }
+        text
+    }
+
+    /// A text of 16 KiB and more, made of many parts, or one of many short lines about as many as may be. The original's copies in joined mode clean all lines above
+    /// each statement anew, so their texts are shorter.
+    pub fn large(&self, random: &mut Random, pass: u8, mode: u8) -> Vec<u8> {
+        if random.chance(4) {
+            return many_lines(random);
+        }
+        let plain = mode == PLAIN || mode == STRICT;
+        let most = match random.below(20) {
+            0 if plain => LARGE_BYTES + 1,
+            1 | 2 | 3 if plain => 1 << 18,
+            _ => 1 << 16,
+        };
+        let size = random.between(1 << 14, most);
+        // the original does not end on some texts beyond ASCII, and one part is enough for that
+        let ascii = random.chance(80);
+        let mut text = Vec::new();
+        while text.len() < size {
+            let part = self.part(random, pass);
+            if !ascii || part.is_ascii() {
+                text.extend_from_slice(&part);
+            }
+        }
+        if text.len() > LARGE_BYTES && random.chance(80) {
+            text.truncate(LARGE_BYTES);
+        }
+        text
     }
 
     /// Other numbers, other line ends, other white space.

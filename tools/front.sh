@@ -3,7 +3,8 @@
 # A script sources this file after it has set `here`, the folder that it stands in with its links followed; then it calls
 # `front NAME WORDS..`. It may set `valued`, the options that take a value and go to the program, `filed`, those of them whose value is a file
 # that the program writes beside its standard output, `bare`, those that go to it without one, `suffix`,
-# what a result's name has behind that of its listing, and `operands`, how many files the program takes (where it is not set: one or none, and -o for many), and has to define `usage`.
+# what a result's name has behind that of its listing, `operands`, how many files the program takes (where it is not set: one or none, and -o for many), `stack`, the
+# KiB of stack that the program is lent where that many are allowed, and `slow`, where it shall be said that a listing takes long, and has to define `usage`.
 #
 #   in the repository   here/tools/front.sh, here/tools/run-built, here/VERSION, here/TOOLCHAIN, here/target/bin/NAME
 #   installed           PREFIX/bin/NAME (the script; here is PREFIX/bin), and in PREFIX/libexec/optlines/ the files front.sh, run-built,
@@ -16,9 +17,13 @@ die() { printf '%s: %s\n' "$name" "$*" >&2; exit 2; }
 
 note() { printf '%s: %s\n' "$name" "$*" >&2; }
 
-# What has to be removed when the script ends, however it ends.
-scratch=
-clean() { [ -z "$scratch" ] || rm -rf -- "$scratch"; scratch=; }
+# What has to be removed and ended when the script ends, however it ends.
+scratch='' waiter=''
+clean() {
+    hush
+    [ -z "$scratch" ] || rm -rf -- "$scratch"
+    scratch=
+}
 stop() { # SIGNAL
     clean
     trap - "$1" EXIT
@@ -149,11 +154,35 @@ build_unproved() {
     clean
 }
 
+# Says how long the program has been at work: after a second, and every ten seconds.
+tell_time() {
+    seconds=0
+    while sleep 1 2>/dev/null; do
+        seconds=$((seconds + 1))
+        [ $((seconds % 10)) -ne 1 ] || note "at work for $seconds s"
+    done
+}
+
+watch() { [ -z "${slow-}" ] || { tell_time </dev/null >/dev/null & waiter=$!; }; }
+
+hush() {
+    [ -z "$waiter" ] || { kill "$waiter"; wait "$waiter"; } 2>/dev/null
+    waiter=
+}
+
+# Whether the program has as large a stack as it may need.
+has_stack() { [ -z "${stack-}" ] || { [ "$(ulimit -s)" != unlimited ] && [ "$(ulimit -s)" -ge "$stack" ]; }; }
+
+# Lends the program such a stack, where that is allowed. An emulator takes a number for the limit alone.
+lend_stack() { has_stack || ulimit -S -s "$stack" 2>/dev/null; }
+
 # Runs the program, its standard output going where this function's goes. What it says is kept, and a status is made of it. A reader that
 # went away is an error of the write, and no signal.
 run() { # WORDS..
-    { said=$({ trap '' PIPE; "$runner" "$program" "$@" >&3 3>&-; } 2>&1); } 3>&1
+    watch
+    { said=$({ trap '' PIPE; lend_stack || :; "$runner" "$program" "$@" >&3 3>&-; } 2>&1); } 3>&1
     ended=$?
+    hush
     case $ended-$said in
     0-) return 0 ;;
     0-"$name: refused "*) return 1 ;;
@@ -162,6 +191,7 @@ run() { # WORDS..
     [ "$ended" -le 128 ] || ended="$ended, which is signal $((ended - 128))"
     said="${said:+$said
 }$name: the program ended with status $ended"
+    (lend_stack) || said="$name: the stack may not grow to $stack KiB, which this listing needs: ulimit -s raises its limit where that is allowed"
     return 2
 }
 

@@ -39,6 +39,15 @@ class Jump(unittest.TestCase):
                 self.agrees(optlines.run_pass(number, text, mode))
         self.agrees(optlines.optimize(b""))
 
+    def test_the_sample_in_either_form(self):
+        with open(SAMPLE + ".txt", "rb") as sample:
+            text = sample.read()
+        first, om = optlines.optimize(text), optlines.optimize_large(text)
+        self.agrees(om)
+        self.assertEqual(optlines.optimize_large(text, form=optlines.OL), first)
+        self.assertEqual(optrecords.to_om(first.origins), om.origins)
+        self.assertEqual(om[:2], first[:2])
+
     def test_fates(self):
         for name in ("EQUAL", "CHANGED", "INSIDE", "GONE"):
             self.assertEqual(getattr(optlines, name), getattr(optrecords, name))

@@ -338,14 +338,17 @@ class Header(unittest.TestCase):
     def test_defines(self):
         found = re.findall(r"^#define OPTLINES_(\w+) (.+)$", self.text, re.M)
         self.assertEqual(sorted(name for name, _ in found),
-                         ["BLOCKS", "BRACKETS", "BYTES", "JOINED", "LINES", "NO_LINE", "PLAIN", "RECORD",
-                          "RECORDS", "STACK", "STRICT", "STRICT_JOINED", "TEXT"])
+                         ["BLOCKS", "BRACKETS", "BYTES", "JOINED", "LARGE_BLOCKS", "LARGE_BYTES",
+                          "LARGE_LINES", "LARGE_NOTES", "LARGE_NO_LINE", "LARGE_OWNERS",
+                          "LARGE_PLACES", "LARGE_RECORD", "LARGE_RECORDS", "LARGE_TEXT", "LINES",
+                          "NO_LINE", "OL", "OL_LINES", "OM", "PLAIN", "RECORD", "RECORDS", "STACK",
+                          "STRICT", "STRICT_JOINED", "TEXT"])
         for name, value in found:
             self.assertEqual(getattr(o, name), int(value), name)
 
     def test_numbers(self):
         found = re.findall(r"^    OPTLINES_(\w+) = (\d+)", self.text, re.M)
-        self.assertEqual(len(found), 14 + 4)  # the numbers and the fates
+        self.assertEqual(len(found), 15 + 4)  # the numbers and the fates
         for name, value in found:
             if name != "OVERLAP":  # of the inline function for C alone
                 self.assertEqual(getattr(o, name), int(value), name)

@@ -1,8 +1,9 @@
 /*
- * Calls the library with whatever libFuzzer makes, and looks at the answer and at every lent byte (include/optlines.h).
+ * Calls the library with whatever libFuzzer makes, and looks at the answer and at every lent byte (include/optlines.h): the first pair of functions, or,
+ * compiled with -DLARGE, the second. Where a text is within the limits of the first pair, the second must give what the first does.
  *
- * Of an input the first six bytes choose the entry, the mode and the lengths, the others are the text. Every buffer that is lent ends at a page that
- * cannot be read or written, so that a step beyond its end ends the run; the text's pages cannot be written.
+ * Of an input the first bytes choose the entry, the mode, the form and the lengths, the others, over and over, are the text. Every buffer that is
+ * lent ends at a page that cannot be read or written, so that a step beyond its end ends the run; the text's pages cannot be written.
  */
 #define _GNU_SOURCE
 #include <optlines.h>
@@ -12,13 +13,35 @@
 #include <sys/mman.h>
 #include <unistd.h>
 
-enum { WORK = 6, MORE = 3, ROOM = 2 * OPTLINES_TEXT, LONGEST = OPTLINES_TEXT + 64 };
+/* A kind of work buffer: elements as stated, the bytes of one. */
+struct kind {
+    size_t stated, unit;
+};
+
+#ifdef LARGE
+enum { MOST = OPTLINES_LARGE_TEXT, MOST_LINES = OPTLINES_LARGE_LINES, MOST_RECORDS = OPTLINES_LARGE_RECORDS, WORK = 18 };
+#define BYTES { OPTLINES_LARGE_BYTES, 1 }
+#define NOTES { OPTLINES_LARGE_NOTES, sizeof(uint32_t) }
+#define LINES { OPTLINES_LARGE_LINES, sizeof(size_t) }
+#define PLACES { OPTLINES_LARGE_PLACES, sizeof(size_t) }
+static const struct kind kinds[WORK] = { BYTES, BYTES, BYTES, BYTES, BYTES, { OPTLINES_LARGE_PLACES, 1 }, { OPTLINES_LARGE_PLACES, 1 },
+    { OPTLINES_LARGE_LINES, 1 }, { OPTLINES_LARGE_BLOCKS, sizeof(uint32_t) }, NOTES, NOTES, NOTES, LINES, LINES, PLACES, PLACES,
+    { OPTLINES_LARGE_OWNERS, sizeof(size_t) }, LINES };
+#else
+enum { MOST = OPTLINES_TEXT, MOST_LINES = OPTLINES_LINES, MOST_RECORDS = OPTLINES_RECORDS, WORK = 6 };
+#define BYTES { OPTLINES_BYTES, 1 }
+static const struct kind kinds[WORK] = { BYTES, BYTES, BYTES, BYTES, BYTES, { OPTLINES_BLOCKS, sizeof(uint32_t) } };
+#endif
+
+enum { MORE = 3, ROOM = 2 * MOST, LONGEST = MOST + 64 };
 /* The bytes of an input before the text. */
-enum { PASS, MODE, SHORTER, ROOM_OF, ROOM_TIMES, RECORDS_OF, HEAD };
+enum { PASS, MODE, SHORTER, ROOM_OF, ROOM_TIMES, RECORDS_OF, FORM, TIMES, HEAD };
 /* What RECORDS_OF says of the record buffer: room for all texts, just enough, one byte less; else so many times 33 bytes. */
 enum { ALL_RECORDS = 255, JUST_RECORDS = 254, LESS_RECORDS = 253, SOME_RECORDS = 33 };
 /* Passes and modes that are asked for: those that there are, and some that there are not. */
-enum { PASSES = 9, MODES = 6 };
+enum { PASSES = 9, MODES = 6, FORMS = 2 };
+/* What TIMES says of the text: just as long as may be, and longer; else how often the input's stands in it, by the square. */
+enum { FULL = 254, TOO_FULL = 255 };
 
 /* A lent buffer: as many bytes, at the end of its pages. */
 struct lent {
@@ -27,6 +50,9 @@ struct lent {
 };
 
 static struct lent work[WORK], out, orig, text;
+
+/* What was chosen of this input. */
+static size_t pass, mode, form, shorter, lines;
 
 static void fail(const char *what)
 {
@@ -52,36 +78,43 @@ static void lend(struct lent *l, size_t size, uint8_t fill)
 
 static void is_filled(const uint8_t *from, const uint8_t *to, uint8_t fill, const char *what)
 {
-    for (; from < to; from++)
-        if (*from != fill)
-            fail(what);
+    if (from < to && (*from != fill || memcmp(from, from + 1, (size_t)(to - from) - 1) != 0))
+        fail(what);
 }
 
-/* The stated size of a work buffer in bytes. */
-static size_t stated(int k)
+static uint8_t call(size_t *length, size_t *place)
 {
-    return k == 5 ? OPTLINES_BLOCKS * sizeof(uint32_t) : OPTLINES_BYTES;
+#define AS(type, k) (type *)(void *)work[k].from, work[k].size / sizeof(type)
+#define FIVE text.from, text.size, AS(uint8_t, 0), AS(uint8_t, 1), AS(uint8_t, 2), AS(uint8_t, 3), AS(uint8_t, 4)
+#define LAST out.from, out.size, orig.from, orig.size, length, place
+#ifdef LARGE
+#define LENT FIVE, AS(uint8_t, 5), AS(uint8_t, 6), AS(uint8_t, 7), AS(uint32_t, 8), AS(uint32_t, 9), AS(uint32_t, 10), AS(uint32_t, 11), \
+    AS(size_t, 12), AS(size_t, 13), AS(size_t, 14), AS(size_t, 15), AS(size_t, 16), AS(size_t, 17), LAST
+    return pass == 0 ? optlines_optimize_large(mode, form, LENT) : optlines_run_pass_large(pass, mode, form, LENT);
+#else
+#define LENT FIVE, AS(uint32_t, 5), LAST
+    return pass == 0 ? optlines_optimize(mode, LENT) : optlines_run_pass(pass, mode, LENT);
+#endif
 }
 
-static uint8_t call(uint8_t pass, uint8_t mode, size_t *length, size_t *place)
+/* The line of the text that a record says. */
+static size_t own_line(const uint8_t *record)
 {
-#define BUFFERS text.from, text.size, work[0].from, work[0].size, work[1].from, work[1].size, work[2].from, work[2].size, \
-    work[3].from, work[3].size, work[4].from, work[4].size, (uint32_t *)work[5].from, work[5].size / sizeof(uint32_t), \
-    out.from, out.size, orig.from, orig.size, length, place
-    return pass == 0 ? optlines_optimize(mode, BUFFERS) : optlines_run_pass(pass, mode, BUFFERS);
+    size_t low = record[2] | (size_t)record[3] << 8;
+    return form == OPTLINES_OL ? low : low | (size_t)record[4] << 16 | (size_t)record[5] << 24;
 }
 
 /* The records of a text: one for each line, those that are kept in order, and no line beyond them. */
-static void look_at_records(size_t lines)
+static void look_at_records(void)
 {
-    size_t kept = 0, furthest = 0;
+    size_t kept = 0, furthest = 0, gone = form == OPTLINES_OL ? OPTLINES_NO_LINE : OPTLINES_LARGE_NO_LINE;
     for (size_t i = 0; i < lines; i++) {
-        const uint8_t *record = orig.from + OPTLINES_RECORD * i;
-        size_t line = optlines_line(orig.from, i);
-        uint8_t fate = optlines_fate(orig.from, i);
-        if (record[0] != 'O' || record[1] != 'L' || record[2] + 256u * record[3] != i || fate > OPTLINES_GONE)
+        const uint8_t *record = orig.from + optlines_record_size(form) * i;
+        size_t line = optlines_line_in(form, orig.from, i);
+        uint8_t fate = optlines_fate_in(form, orig.from, i);
+        if (record[0] != 'O' || record[1] != (form == OPTLINES_OL ? 'L' : 'M') || own_line(record) != i || fate > OPTLINES_GONE)
             fail("no record");
-        if ((fate == OPTLINES_GONE) != (line == OPTLINES_NO_LINE))
+        if ((fate == OPTLINES_GONE) != (line == gone))
             fail("a fate and a line that disagree");
         if (fate <= OPTLINES_CHANGED && line != kept++)
             fail("a kept line out of order");
@@ -96,9 +129,9 @@ static void look_at_records(size_t lines)
 static void look(uint8_t number, size_t length, uint8_t fill)
 {
     int ran = number == OPTLINES_DONE || number == OPTLINES_SHORT_RESULT || number == OPTLINES_SHORT_RECORDS;
-    size_t lines = number == OPTLINES_DONE ? optlines_lines(text.from, text.size) : 0;
+    size_t told = number == OPTLINES_DONE ? optlines_record_size(form) * lines : 0;
     for (int k = 0; k < WORK; k++) {
-        const uint8_t *end = work[k].from + work[k].size, *used = ran ? work[k].from + stated(k) : work[k].from;
+        const uint8_t *end = work[k].from + work[k].size, *used = ran ? work[k].from + kinds[k].stated * kinds[k].unit : work[k].from;
         is_filled(work[k].pages, work[k].from, fill, "written before a work buffer");
         is_filled(work[k].from, used, 0, "a work buffer is not 0");
         is_filled(used, end, fill, "a work buffer is changed");
@@ -106,18 +139,19 @@ static void look(uint8_t number, size_t length, uint8_t fill)
     is_filled(out.pages, out.from, fill, "written before the result buffer");
     is_filled(out.from + length, out.from + out.size, fill, "the result buffer is changed behind the result");
     is_filled(orig.pages, orig.from, fill, "written before the record buffer");
-    look_at_records(lines);
-    is_filled(orig.from + OPTLINES_RECORD * lines, orig.from + orig.size, fill, "the record buffer is changed behind the records");
+    if (told > 0)
+        look_at_records();
+    is_filled(orig.from + told, orig.from + orig.size, fill, "the record buffer is changed behind the records");
 }
 
 /* The answer is one of the table. */
-static void judge(uint8_t pass, uint8_t mode, uint8_t number, size_t length, size_t place)
+static void judge(uint8_t number, size_t length, size_t place)
 {
-    enum { LAST = OPTLINES_TEXT - 1 };
-    size_t need = OPTLINES_RECORD * optlines_lines(text.from, text.size);
-    const size_t least[13] = {0, 0, OPTLINES_TEXT, 0, 0, OPTLINES_LINES, 0, out.size + 1, need, 0, 0, 0, 0};
-    const size_t most[13] = {0, 0, OPTLINES_TEXT, 0, LAST, OPTLINES_LINES, OPTLINES_LINES - 1, ROOM, need, LAST, LAST, LAST, 0};
-    if (number > OPTLINES_BAD_MODE || place < least[number] || place > most[number])
+    enum { LAST_BYTE = MOST - 1, OL_LINES = OPTLINES_OL_LINES };
+    size_t need = optlines_record_size(form) * lines;
+    const size_t least[14] = {0, 0, MOST, 0, 0, MOST_LINES, 0, out.size + 1, need, 0, 0, 0, 0, OL_LINES};
+    const size_t most[14] = {0, 0, MOST, 0, LAST_BYTE, MOST_LINES, MOST_LINES - 1, ROOM, need, LAST_BYTE, LAST_BYTE, LAST_BYTE, 0, OL_LINES};
+    if (number > OPTLINES_WIDE_LINES || place < least[number] || place > most[number])
         fail("no answer of the table");
     if ((number == OPTLINES_DONE && need > orig.size) || (number == OPTLINES_SHORT_RECORDS && need <= orig.size))
         fail("the record buffer is misjudged");
@@ -125,64 +159,128 @@ static void judge(uint8_t pass, uint8_t mode, uint8_t number, size_t length, siz
         fail("a length that cannot be");
     if ((number == OPTLINES_BAD_PASS) != (pass > 6))
         fail("the pass is misjudged");
-    if (pass <= 6 && (number == OPTLINES_BAD_MODE) != (mode > OPTLINES_STRICT_JOINED))
+    if (pass > 6)
+        return;
+    if ((number == OPTLINES_BAD_MODE) != (mode > OPTLINES_STRICT_JOINED))
         fail("the mode is misjudged");
-    if (pass <= 6 && mode <= OPTLINES_STRICT_JOINED && (number == OPTLINES_TOO_LONG) != (text.size > OPTLINES_TEXT))
+    if (mode > OPTLINES_STRICT_JOINED)
+        return;
+    if ((number == OPTLINES_TOO_LONG) != (text.size > MOST))
         fail("the length of the text is misjudged");
+    if (text.size <= MOST && (number == OPTLINES_SHORT_WORK) != (shorter > 0 && shorter <= WORK))
+        fail("the length of a work buffer is misjudged");
+}
+
+/* The lines of a text that is not refused before they are counted. */
+static void judge_lines(uint8_t number)
+{
+    int counted = number == OPTLINES_DONE || (number >= OPTLINES_TOO_MANY_LINES && number <= OPTLINES_SHORT_RECORDS)
+        || number == OPTLINES_WIDE_LINES;
+    int wide = form == OPTLINES_OL && lines > OPTLINES_OL_LINES;
+    if (counted && (number == OPTLINES_TOO_MANY_LINES) != (lines > MOST_LINES))
+        fail("the lines are misjudged");
+    if (counted && lines <= MOST_LINES && (number == OPTLINES_WIDE_LINES) != wide)
+        fail("the lines of the form are misjudged");
 }
 
 /* How much of the record buffer is lent. */
 static size_t record_room(uint8_t said)
 {
-    size_t need = OPTLINES_RECORD * optlines_lines(text.from, text.size);
-    if (need > OPTLINES_RECORDS || said == ALL_RECORDS)
-        return OPTLINES_RECORDS;
+    size_t need = optlines_record_size(form) * lines;
+    if (need > MOST_RECORDS || said == ALL_RECORDS)
+        return MOST_RECORDS;
     if (said >= LESS_RECORDS)
         return said == LESS_RECORDS && need > 0 ? need - 1 : need;
-    return (size_t)said * SOME_RECORDS % (OPTLINES_RECORDS + 1);
+    return (size_t)said * SOME_RECORDS % (MOST_RECORDS + 1);
 }
 
 /* One call in buffers full of one byte. */
 static uint8_t turn(const uint8_t *head, uint8_t fill, size_t *length, size_t *place)
 {
-    for (int k = 0; k < WORK; k++) {
-        size_t unit = k == 5 ? sizeof(uint32_t) : 1;
-        lend(&work[k], stated(k) + (head[SHORTER] == k + 1 ? -unit : unit * (head[SHORTER] % (MORE + 1))), fill);
+    for (size_t k = 0; k < WORK; k++) {
+        size_t elements = kinds[k].stated + (shorter == k + 1 ? (size_t)-1 : shorter % (MORE + 1));
+        lend(&work[k], elements * kinds[k].unit, fill);
     }
     lend(&out, head[ROOM_OF] == 255 ? ROOM : (size_t)head[ROOM_OF] * head[ROOM_TIMES] % (ROOM + 1), fill);
     lend(&orig, record_room(head[RECORDS_OF]), fill);
     *length = *place = 12345;
-    uint8_t pass = head[PASS] % PASSES, mode = head[MODE] % MODES;
-    uint8_t number = call(pass, mode, length, place);
-    judge(pass, mode, number, *length, *place);
+    uint8_t number = call(length, place);
+    judge(number, *length, *place);
+    judge_lines(number);
     look(number, *length, fill);
     return number;
 }
 
+#ifdef LARGE
+/* What the first pair says of a text that it takes, or of damage in it. */
+static void same_as_first(uint8_t number, size_t length, size_t place)
+{
+    static struct optlines_work first;
+    int damaged = number == OPTLINES_NOT_UTF8 || number == OPTLINES_CROWDED || (number >= OPTLINES_CUT && number <= OPTLINES_OUTSIDE);
+    if (text.size > OPTLINES_TEXT || lines > OPTLINES_LINES || !(damaged || number == OPTLINES_DONE))
+        return;
+    if (optlines_tidy(&first, pass, mode, text.from, text.size) != number || first.length != length || first.place != place
+        || memcmp(first.out, out.from, length) != 0)
+        fail("the first pair says something else");
+    for (size_t i = 0; i < first.records; i++) {
+        size_t line = optlines_line(first.orig, i), own = optlines_line_in(form, orig.from, i);
+        uint8_t fate = optlines_fate(first.orig, i);
+        if (fate != optlines_fate_in(form, orig.from, i) || (fate != OPTLINES_GONE && line != own))
+            fail("the first pair tells other records");
+    }
+}
+#endif
+
+/* How long the text of an input is: that of the input so many times over, as often as it fits; or just as long as a text may be, or longer. */
+static size_t text_size(size_t length, size_t times)
+{
+    if (length == 0 || times == FULL)
+        return length == 0 ? 0 : MOST;
+    if (times == TOO_FULL || length > LONGEST)
+        return LONGEST;
+    return length * (1 + times * times) <= MOST ? length * (1 + times * times) : length > MOST ? length : MOST / length * length;
+}
+
+static void take_text(const uint8_t *data, size_t length, size_t times)
+{
+    mprotect(text.pages, text.pages_size, PROT_READ | PROT_WRITE);
+    lend(&text, text_size(length, times), 0);
+    for (size_t at = 0; at < text.size; at += length)
+        memcpy(text.from + at, data, text.size - at < length ? text.size - at : length);
+    mprotect(text.pages, text.pages_size, PROT_READ);
+    lines = optlines_lines(text.from, text.size);
+}
+
 int LLVMFuzzerTestOneInput(const uint8_t *data, size_t size)
 {
-    static uint8_t first[ROOM], first_orig[OPTLINES_RECORDS];
+    static uint8_t first[ROOM], first_orig[MOST_RECORDS];
     size_t length, place, length2, place2;
     if (size < HEAD)
         return 0;
     if (text.pages == NULL) {
         for (int k = 0; k < WORK; k++)
-            map(&work[k], stated(k) + MORE * sizeof(uint32_t));
+            map(&work[k], (kinds[k].stated + MORE) * kinds[k].unit);
         map(&out, ROOM);
-        map(&orig, OPTLINES_RECORDS);
+        map(&orig, MOST_RECORDS);
         map(&text, LONGEST);
     }
-    mprotect(text.pages, text.pages_size, PROT_READ | PROT_WRITE);
-    lend(&text, size - HEAD < LONGEST ? size - HEAD : LONGEST, 0);
-    memcpy(text.from, data + HEAD, text.size);
-    mprotect(text.pages, text.pages_size, PROT_READ);
+    pass = data[PASS] % PASSES;
+    mode = data[MODE] % MODES;
+    shorter = data[SHORTER];
+#ifdef LARGE
+    form = data[FORM] % FORMS;
+#endif
+    take_text(data + HEAD, size - HEAD, data[TIMES]);
     uint8_t number = turn(data, 0xA5, &length, &place);
-    size_t told = number == OPTLINES_DONE ? OPTLINES_RECORD * optlines_lines(text.from, text.size) : 0;
+    size_t told = number == OPTLINES_DONE ? optlines_record_size(form) * lines : 0;
     memcpy(first, out.from, length);
     memcpy(first_orig, orig.from, told);
     uint8_t number2 = turn(data, 0x3C, &length2, &place2);
     if (number != number2 || length != length2 || place != place2 || memcmp(first, out.from, length) != 0
         || memcmp(first_orig, orig.from, told) != 0)
         fail("what stood in the buffers changes the answer");
+#ifdef LARGE
+    same_as_first(number, length, place);
+#endif
     return 0;
 }

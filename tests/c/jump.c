@@ -1,11 +1,13 @@
 /*
  * From a line of a tidy text back to the raw lines behind it, with both libraries: what
- * optlines_tidy() wrote is read by what optrecords.h declares. Reads a listing from standard input
- * and tries each pass in each mode over it. Says what fails; status 1 where something does.
+ * optlines_tidy() wrote is read by what optrecords.h declares, and turned into the other form it is
+ * what optlines_tidy_large() wrote. Reads a listing from standard input and tries each pass in each
+ * mode over it. Says what fails; status 1 where something does.
  */
 #include "optlines.h"
 #include "optrecords.h"
 #include <stdio.h>
+#include <string.h>
 
 #ifdef __cplusplus
 #define LANGUAGE "tests/c++"
@@ -14,7 +16,8 @@
 #endif
 
 static struct optlines_work work;
-static uint8_t text[OPTLINES_TEXT + 1];
+static struct optlines_large large;
+static uint8_t text[OPTLINES_TEXT + 1], turned[OPTLINES_LARGE_RECORD * OPTLINES_LINES];
 static size_t room[OPTLINES_LINES];
 static int calls, failures;
 
@@ -58,6 +61,27 @@ static void jump(const uint8_t *file, size_t size)
         fail("lines behind the one that stands for gone", count);
 }
 
+/* The call for larger texts gives the same result, and the same records in either form. */
+static void same_by_larger(size_t pass, size_t mode, size_t length)
+{
+    size_t size = OPTLINES_RECORD * work.records, count, place;
+    for (size_t form = OPTLINES_OL; form <= OPTLINES_OM; form++) {
+        const uint8_t *records = form == OPTLINES_OL ? work.orig : turned;
+        calls++;
+        if (optlines_tidy_large(&large, pass, mode, form, text, length) != OPTLINES_DONE)
+            fail("refused, as a larger text", large.place);
+        if (large.length != work.length || memcmp(large.out, work.out, work.length) != 0)
+            fail("another result, as a larger text", large.length);
+        if (form == OPTLINES_OM
+            && optrecords_to_om(work.orig, size, turned, sizeof turned, &count, &place)
+                != OPTRECORDS_DONE)
+            fail("not turned", place);
+        if (large.records != work.records
+            || memcmp(large.orig, records, optlines_record_size(form) * work.records) != 0)
+            fail("other records, as a larger text", large.records);
+    }
+}
+
 int main(void)
 {
     size_t length = fread(text, 1, sizeof text, stdin);
@@ -69,6 +93,7 @@ int main(void)
             fail("refused", work.place);
         read_records(work.orig, OPTLINES_RECORD * work.records);
         jump(work.orig, OPTLINES_RECORD * work.records);
+        same_by_larger(call / 4, call % 4, length);
     }
     printf(LANGUAGE ": jump: %d calls, %d failures\n", calls, failures);
     return failures != 0;

@@ -2,14 +2,17 @@
  * Measures what a call takes of the stack. Reads texts from standard input, each as its length
  * (4 bytes, low byte first) and its bytes, and calls optlines_tidy() with each number of a pass
  * and in each mode over each text, in a thread whose stack is painted: full of one byte. How far
- * down the paint is gone is what the call took, with its arguments. A function that writes a known
- * number of bytes is measured first. Writes the header's figure, that measure, how many texts there
- * were, and for each pass the most bytes and the text that took them, counted from 0:
+ * down the paint is gone is what the call took, with its arguments. optlines_tidy_large() is called
+ * with all passes in one mode over each text. A function that writes a known number of bytes is
+ * measured first. Writes the header's figure, that measure, how many texts there were, and for each
+ * pass, and for the calls of optlines_tidy_large(), the most bytes and the text that took them,
+ * counted from 0:
  *
  *     figure BYTES
  *     known BYTES MEASURED
  *     texts COUNT
  *     pass PASS BYTES TEXT
+ *     large BYTES TEXT
  *
  * Status 2 where something cannot be had. A call that takes all of the stack ends in a signal.
  */
@@ -23,11 +26,12 @@
 #include <unistd.h>
 
 enum { STACK = 1 << 20, STRIDE = 4096, PAINT = 0x5A, KNOWN = 65536 };
-enum { PASSES = 7, MODES = 4, PROBE = PASSES, LONGEST = OPTLINES_TEXT + 1 };
+enum { PASSES = 7, MODES = 4, LARGE = PASSES, PROBE, LONGEST = OPTLINES_LARGE_TEXT + 1 };
 
 static uint8_t *stack; /* its lowest byte */
 static uint8_t paint[STRIDE];
 static struct optlines_work work;
+static struct optlines_large large_work;
 
 struct call {
     size_t pass, mode;
@@ -58,6 +62,8 @@ static void *measure(void *given)
     uint8_t *top = __builtin_frame_address(0), *low = stack;
     if (c->pass == PROBE)
         probe();
+    else if (c->pass == LARGE)
+        optlines_tidy_large(&large_work, 0, c->mode, OPTLINES_OM, c->text, c->length);
     else
         optlines_tidy(&work, c->pass, c->mode, c->text, c->length);
     while (low + STRIDE < top && memcmp(low, paint, STRIDE) == 0)
@@ -108,24 +114,33 @@ static long next(uint8_t *text)
     return (long)length;
 }
 
+/* The most that each pass took, and LARGE, and which text took it. */
+static size_t most[LARGE + 1], where[LARGE + 1];
+
+static void note(struct call c, size_t text)
+{
+    size_t used = taken(c);
+    if (used > most[c.pass]) {
+        most[c.pass] = used;
+        where[c.pass] = text;
+    }
+}
+
 int main(void)
 {
     static uint8_t text[LONGEST];
-    size_t most[PASSES] = { 0 }, where[PASSES] = { 0 }, count = 0;
+    size_t count = 0;
     map();
     printf("figure %d\n", OPTLINES_STACK);
     printf("known %d %zu\n", KNOWN, taken((struct call) { PROBE, 0, NULL, 0, NULL, 0 }));
-    for (long length = next(text); length >= 0; length = next(text), count++)
-        for (size_t call = 0; call < PASSES * MODES; call++) {
-            size_t pass = call / MODES;
-            size_t used = taken((struct call) { pass, call % MODES, text, (size_t)length, NULL, 0 });
-            if (used > most[pass]) {
-                most[pass] = used;
-                where[pass] = count;
-            }
-        }
+    for (long length = next(text); length >= 0; length = next(text), count++) {
+        for (size_t call = 0; call < PASSES * MODES; call++)
+            note((struct call) { call / MODES, call % MODES, text, (size_t)length, NULL, 0 }, count);
+        note((struct call) { LARGE, count % MODES, text, (size_t)length, NULL, 0 }, count);
+    }
     printf("texts %zu\n", count);
     for (size_t pass = 0; pass < PASSES; pass++)
         printf("pass %zu %zu %zu\n", pass, most[pass], where[pass]);
+    printf("large %zu %zu\n", most[LARGE], where[LARGE]);
     return fflush(stdout) == 0 ? 0 : 2;
 }

@@ -2,8 +2,8 @@
 //! function does.
 //!
 //! [`optimize`] and [`run_pass`] bring their own buffers. [`optimize_in`] and [`run_pass_in`] work
-//! in lent ones and allocate nothing. Any number of threads may call at once; each needs [`STACK`]
-//! bytes of stack.
+//! in lent ones and allocate nothing. [`large`] has the same for larger texts. Any number of threads
+//! may call at once; each needs [`STACK`] bytes of stack.
 //!
 //! ```
 //! use optlines::{optimize, Fate, Mode};
@@ -16,6 +16,7 @@
 
 #![deny(unsafe_op_in_unsafe_fn, missing_docs)]
 
+pub mod large;
 #[cfg(feature = "records")]
 pub mod records;
 
@@ -81,21 +82,20 @@ pub struct Record {
 }
 
 impl Record {
-    /// The record with these bytes, as the library writes them.
-    fn of(bytes: &[u8; RECORD]) -> Record {
-        let [_, _, line, line_high, fate, output, output_high] = *bytes;
-        let output = usize::from(u16::from_le_bytes([output, output_high]));
+    /// The record with these bytes, as the library writes them, each line in so many of them.
+    fn of(width: usize, bytes: &[u8]) -> Record {
+        let number = |from: usize| {
+            let low_first = bytes[from..from + width].iter().rev();
+            low_first.fold(0, |n, byte| n << 8 | usize::from(*byte))
+        };
+        let (line, fate, output) = (number(2), bytes[2 + width], number(3 + width));
         let (fate, output) = match fate {
             0 => (Fate::Equal, Some(output)),
             1 => (Fate::Changed, Some(output)),
             2 => (Fate::Inside, Some(output)),
             _ => (Fate::Gone, None),
         };
-        Record {
-            line: usize::from(u16::from_le_bytes([line, line_high])),
-            fate,
-            output,
-        }
+        Record { line, fate, output }
     }
 }
 
@@ -107,7 +107,7 @@ pub struct Tidy {
     pub text: Vec<u8>,
     /// Where each line of the text went, in order.
     pub records: Vec<Record>,
-    /// The same records as bytes: a record file of the form `OL`.
+    /// The same records as bytes: a record file of the form `OL`, or of the one that was asked for.
     pub origins: Vec<u8>,
 }
 
@@ -126,6 +126,13 @@ pub enum Refusal {
     NotUtf8(usize),
     /// The text has more than [`LINES`] lines.
     TooManyLines,
+    /// A call of the second pair: the text is longer than [`large::TEXT`] bytes.
+    TooLongLarge,
+    /// A call of the second pair: the text has more than [`large::LINES`] lines.
+    TooManyLinesLarge,
+    /// The text has more than [`large::OL_LINES`] lines, and its records were asked for in the form
+    /// `OL`.
+    WideLines,
     /// A line has more than [`BRACKETS`] bytes `[`: the first such line, from 0.
     Crowded(usize),
     /// The result buffer is shorter than the result: the length needed.
@@ -156,9 +163,11 @@ impl Refusal {
         Some(match number {
             0 => return None,
             1 => Refusal::BadPass,
+            2 if place == large::TEXT => Refusal::TooLongLarge,
             2 => Refusal::TooLong,
             3 => Refusal::ShortWork,
             4 => Refusal::NotUtf8(place),
+            5 if place == large::LINES => Refusal::TooManyLinesLarge,
             5 => Refusal::TooManyLines,
             6 => Refusal::Crowded(place),
             7 => Refusal::ShortResult(place),
@@ -167,6 +176,7 @@ impl Refusal {
             10 => Refusal::Overlong(place),
             11 => Refusal::Outside(place),
             12 => Refusal::BadMode,
+            13 => Refusal::WideLines,
             _ => Refusal::Other { number, place },
         })
     }
@@ -175,10 +185,10 @@ impl Refusal {
     pub fn number(self) -> u8 {
         match self {
             Refusal::BadPass => 1,
-            Refusal::TooLong => 2,
+            Refusal::TooLong | Refusal::TooLongLarge => 2,
             Refusal::ShortWork => 3,
             Refusal::NotUtf8(_) => 4,
-            Refusal::TooManyLines => 5,
+            Refusal::TooManyLines | Refusal::TooManyLinesLarge => 5,
             Refusal::Crowded(_) => 6,
             Refusal::ShortResult(_) => 7,
             Refusal::ShortRecords(_) => 8,
@@ -186,6 +196,7 @@ impl Refusal {
             Refusal::Overlong(_) => 10,
             Refusal::Outside(_) => 11,
             Refusal::BadMode => 12,
+            Refusal::WideLines => 13,
             Refusal::Other { number, .. } => number,
         }
     }
@@ -196,6 +207,9 @@ impl Refusal {
             Refusal::BadPass | Refusal::ShortWork | Refusal::BadMode => 0,
             Refusal::TooLong => TEXT,
             Refusal::TooManyLines => LINES,
+            Refusal::TooLongLarge => large::TEXT,
+            Refusal::TooManyLinesLarge => large::LINES,
+            Refusal::WideLines => large::OL_LINES,
             Refusal::NotUtf8(place)
             | Refusal::Crowded(place)
             | Refusal::ShortResult(place)
@@ -213,11 +227,19 @@ impl fmt::Display for Refusal {
         match self {
             Refusal::BadPass => write!(f, "there is no such pass: they are 1 to 6"),
             Refusal::TooLong => write!(f, "the text is longer than {TEXT} bytes"),
+            Refusal::TooLongLarge => write!(f, "the text is longer than {} bytes", large::TEXT),
             Refusal::ShortWork => write!(f, "a work buffer is shorter than its stated size"),
             Refusal::NotUtf8(at) => {
                 write!(f, "the text is not UTF-8: see byte {at}, counted from 0")
             }
             Refusal::TooManyLines => write!(f, "the text has more than {LINES} lines"),
+            Refusal::TooManyLinesLarge => {
+                write!(f, "the text has more than {} lines", large::LINES)
+            }
+            Refusal::WideLines => {
+                let most = large::OL_LINES;
+                write!(f, "the form OL has numbers for {most} lines: ask for OM")
+            }
             Refusal::Crowded(line) => {
                 write!(
                     f,
@@ -329,17 +351,27 @@ macro_rules! call {
     }};
 }
 
-/// How many bytes the records of a text take: [`RECORD`] for each line.
-pub fn record_bytes(text: &[u8]) -> usize {
+/// How many lines a text has.
+fn line_count(text: &[u8]) -> usize {
     let ends = text.iter().filter(|b| **b == b'\n').count();
     let rest = text.last().is_some_and(|b| *b != b'\n');
-    RECORD * (ends + usize::from(rest))
+    ends + usize::from(rest)
+}
+
+/// What the bytes of records say, each line in so many of them.
+fn read_records(width: usize, origins: &[u8]) -> impl Iterator<Item = Record> + '_ {
+    let whole = origins.chunks_exact(3 + 2 * width);
+    whole.map(move |bytes| Record::of(width, bytes))
+}
+
+/// How many bytes the records of a text take: [`RECORD`] for each line.
+pub fn record_bytes(text: &[u8]) -> usize {
+    RECORD * line_count(text)
 }
 
 /// What the bytes of records say, as a call wrote them.
 pub fn records_in(origins: &[u8]) -> impl Iterator<Item = Record> + '_ {
-    let whole = origins.chunks_exact(RECORD);
-    whole.filter_map(|bytes| bytes.try_into().ok().map(Record::of))
+    read_records(2, origins)
 }
 
 /// Runs all passes in lent buffers: how many bytes of `out` are the result. The first
@@ -429,12 +461,16 @@ mod tests {
             (5, 1_024),
             (6, 3),
             (7, 40),
+            (2, 1_048_576),
+            (5, 100_000),
+            (12, 0),
+            (13, 65_535),
         ];
-        let later = (8..=255).map(|n| (n, if n == 12 { 0 } else { 5 }));
+        let later = (8..=255).filter(|n| !matches!(n, 12 | 13)).map(|n| (n, 5));
         for (number, place) in answers.into_iter().chain(later) {
             let refusal = Refusal::of(number, place).expect("a refusal");
             assert_eq!((refusal.number(), refusal.place()), (number, place));
-            let known = matches!(number, 1..=12);
+            let known = matches!(number, 1..=13);
             assert_eq!(!known, refusal == Refusal::Other { number, place });
         }
         assert_eq!(Refusal::of(0, 0), None);

@@ -1,53 +1,26 @@
 //! Calls the library through the wrapper: the sample, each pass, each mode, the records, every
 //! refusal, its words, and the lent bytes after each call.
 
+mod common;
+
+use common::{kept, FILLED, ORIGINS, SAMPLE, SPARE, TIDY};
+use optlines::large::Form;
 use optlines::{optimize, optimize_in, record_bytes, records_in, run_pass, run_pass_in};
-use optlines::{Fate, Mode, Record, Refusal, Tidy, Work};
+use optlines::{Mode, Record, Refusal, Tidy, Work};
 use optlines::{BLOCKS, BRACKETS, BYTES, LINES, RECORDS, STACK, TEXT};
 use std::error::Error;
 use std::thread;
 
-const SAMPLE: &[u8] =
-    b"function f(a) {\n  let r0, r1, r2;\n  r0 = a;\n  r1 = g(r0);\n  return r1;\n}\n";
-const TIDY: &[u8] = b"function f(a) {\n  let r1 = g(a);\n  return r1;\n}\n";
-const ORIGINS: &str = "00 3- 21 11 02 03";
-
-const SPARE: usize = 8;
-const FILLED: u8 = 0xA5;
 const FILLED_BLOCK: u32 = 0xA5A5_A5A5;
 
-/// The records that are said by the fate of each line and its line of the result, a digit or `-`
-/// for none, as in `00 3- 11`.
+/// The records that are said in short, from line 0 on.
 fn said(records: &str) -> Vec<Record> {
-    let fates = [Fate::Equal, Fate::Changed, Fate::Inside, Fate::Gone];
-    let digit = |c: u8| char::from(c).to_digit(10).map(|d| d as usize);
-    let each = records.split_whitespace().map(str::as_bytes).enumerate();
-    each.map(|(line, word)| Record {
-        line,
-        fate: fates[digit(word[0]).expect("a fate")],
-        output: digit(word[1]),
-    })
-    .collect()
+    common::said(records, 0, 0)
 }
 
 /// The records as bytes.
 fn bytes_of(records: &[Record]) -> Vec<u8> {
-    let low = |n: usize| u16::try_from(n).expect("a line").to_le_bytes();
-    let one = |r: &Record| {
-        let output = r.output.unwrap_or(65_535);
-        [b"OL", &low(r.line)[..], &[r.fate as u8], &low(output)].concat()
-    };
-    records.iter().flat_map(one).collect()
-}
-
-/// Each line is kept, with equal bytes.
-fn kept(lines: usize) -> Vec<Record> {
-    let record = |line| Record {
-        line,
-        fate: Fate::Equal,
-        output: Some(line),
-    };
-    (0..lines).map(record).collect()
+    common::bytes_of(Form::Ol, records)
 }
 
 /// Checks what a call with buffers of its own gives.

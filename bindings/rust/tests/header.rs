@@ -1,5 +1,6 @@
 //! The constants of the wrapper are those of include/optlines.h, which is read as text.
 
+use optlines::large::{self, Form};
 use optlines::{Fate, Mode, Refusal};
 use optlines::{BLOCKS, BRACKETS, BYTES, LINES, RECORD, RECORDS, STACK, TEXT};
 use std::fs;
@@ -35,8 +36,21 @@ fn every_define() {
         ("BRACKETS", BRACKETS),
         ("BYTES", BYTES),
         ("JOINED", Mode::Joined as usize),
+        ("LARGE_BLOCKS", large::BLOCKS),
+        ("LARGE_BYTES", large::BYTES),
+        ("LARGE_LINES", large::LINES),
+        ("LARGE_NOTES", large::NOTES),
+        ("LARGE_NO_LINE", 4_294_967_295), // none in Rust
+        ("LARGE_OWNERS", large::OWNERS),
+        ("LARGE_PLACES", large::PLACES),
+        ("LARGE_RECORD", large::RECORD),
+        ("LARGE_RECORDS", large::RECORDS),
+        ("LARGE_TEXT", large::TEXT),
         ("LINES", LINES),
         ("NO_LINE", 65_535), // none in Rust
+        ("OL", Form::Ol as usize),
+        ("OL_LINES", large::OL_LINES),
+        ("OM", Form::Om as usize),
         ("PLAIN", Mode::Plain as usize),
         ("RECORD", RECORD),
         ("RECORDS", RECORDS),
@@ -73,6 +87,7 @@ fn every_number() {
         ("OVERLONG", of(Refusal::Overlong(0))),
         ("OUTSIDE", of(Refusal::Outside(0))),
         ("BAD_MODE", of(Refusal::BadMode)),
+        ("WIDE_LINES", of(Refusal::WideLines)),
         ("OVERLAP", 255), // of the inline function for C alone
         ("EQUAL", Fate::Equal as usize),
         ("CHANGED", Fate::Changed as usize),

@@ -2,6 +2,7 @@
 //! module `optlines::records` reads what a call wrote.
 #![cfg(feature = "records")]
 
+use optlines::large::{self, Form};
 use optlines::{optimize, records, run_pass, Fate, Mode, Record, Tidy};
 
 const SAMPLE: &[u8] = include_bytes!("../../../docs/sample/chapel.txt");
@@ -51,4 +52,18 @@ fn the_sample_by_each_entry() {
         }
     }
     agrees(&optimize(Mode::Plain, b"").expect("a result"));
+}
+
+/// The second pair writes what the first one does, and in the form OM what the module turns it into.
+#[test]
+fn the_sample_in_either_form() {
+    for mode in [Mode::Plain, Mode::Strict, Mode::Joined, Mode::StrictJoined] {
+        let first = optimize(mode, SAMPLE).expect("a result");
+        let ol = large::optimize(mode, Form::Ol, SAMPLE).expect("a result");
+        let om = large::optimize(mode, Form::Om, SAMPLE).expect("a result");
+        agrees(&om);
+        assert_eq!(ol, first);
+        assert_eq!(records::to_om(&first.origins), Ok(om.origins));
+        assert_eq!((om.text, om.records), (first.text, first.records));
+    }
 }

@@ -1,4 +1,4 @@
--- Request 1: what the records of a text say, of the whole and of each pass: one for each line, each output line once, and none past them; and those of a tail.
+-- Requests 1 and 8: what the records of a text say, of the whole and of each pass: one for each line, each output line once, and none past them; and those of a tail.
 -- Assumes nothing.
 use Prim.Native.Nat.{ℕ, zero, suc, _+_, _*_, _≤_}
 use mathlib.Core.Path.{_≡_, refl, sym, ap, _∙_}
@@ -11,7 +11,7 @@ use lib.ListN.{length, take, drop, getD, length-append, length-take, take-append
 use Rattle.lines.specs.Lf.{all, same}
 use Rattle.lines.specs.Acts.{Act, apply}
 use Rattle.lines.proofs.Tests.{no, and-left, and-right, and-both}
-use Rattle.origins.specs.declared.Form.the-variants as form
+use Rattle.origins.specs.declared.Form.{Form}
 use Rattle.origins.specs.declared.Went.{Went}
 use Rattle.origins.specs.declared.Went.the-variants.{Equal, Changed, Inside, Away}
 use Rattle.origins.specs.Form.{Shape, formShape, goneOf, sizeOf, recordsFrom, fileOf}
@@ -61,8 +61,8 @@ pub record Accounted (n m : ℕ) (ws : List Went) : Type 0 where
   pub stand : keptAs ws ≡ countUp m 0
   -- the others that are not gone name one of these
   pub named : all (namedIn m) ws ≡ true
-  -- and a line that is gone, and no other, has the number that stands for gone
-  pub gone-only : n ≤ goneOf (formShape form.Ol) → m ≤ n → fitsFrom (formShape form.Ol) 0 ws ≡ true
+  -- and a line that is gone, and no other, has the number that stands for gone, in a form that has numbers for so many lines
+  pub gone-only : (F : Form) → n ≤ goneOf (formShape F) → m ≤ n → fitsFrom (formShape F) 0 ws ≡ true
 
 kept-at : (b : Bool) (n : ℕ) (ws : List Went) → keptAs (cond b (Equal n) (Changed n) ∷ ws) ≡ n ∷ keptAs ws
 unfolding keptAs
@@ -124,7 +124,7 @@ accounted out ls fs g =
       each = n;
       stand = kept-stands out ls fs (g .many) ∙ g .each;
       named = e;
-      gone-only = λ h k. fits-all (formShape form.Ol) (length out) 0 (wentsOf out ls fs) (omega arith) (omega (arith, n)) e;
+      gone-only = λ F h k. fits-all (formShape F) (length out) 0 (wentsOf out ls fs) (omega arith) (omega (arith, n)) e;
     }
 
 -- of any steps one after the other, and so of the whole, and of each pass, in every mode
@@ -181,19 +181,19 @@ cut-said rebuilds mode upper tail h s o =
 cut-said prunes mode upper tail h s o = cut-acts pruneDeclsActs upper tail (decls-cut upper tail h) decls.acts-length
 cut-said binds mode upper tail h s o = cut-acts (bindDeclaratorsActs (readingOf mode)) upper tail (bind.bind-acts-cut (mode-lined mode) upper tail h s o) (bind.bind-length (mode-lined mode))
 
--- and the bytes: behind the records of the upper lines stand those of the tail, the first of its lines numbered by the lines above it
-pub cut-records : {k : ℕ} → Cuts k → (mode : ℕ) (upper tail : List (List ℕ)) → headed tail ≡ true → endsShut (joinedAt mode) upper ≡ true → own (cleanIn (joinedAt mode) tail) ≡ true →
-    drop (7 * length upper) (fileOf (formShape form.Ol) (wentsOf (stepOf (readingOf mode) k (upper ++ tail)) (upper ++ tail) (stepFates (readingOf mode) k (upper ++ tail))))
-    ≡ recordsFrom (formShape form.Ol) (length upper) (lowers (length (stepOf (readingOf mode) k upper)) (wentsOf (stepOf (readingOf mode) k tail) tail (stepFates (readingOf mode) k tail)))
+-- and the bytes, in each form: behind the records of the upper lines stand those of the tail, the first of its lines numbered by the lines above it
+pub cut-records : {k : ℕ} → Cuts k → (F : Form) (mode : ℕ) (upper tail : List (List ℕ)) → headed tail ≡ true → endsShut (joinedAt mode) upper ≡ true → own (cleanIn (joinedAt mode) tail) ≡ true →
+    drop (sizeOf (formShape F) * length upper) (fileOf (formShape F) (wentsOf (stepOf (readingOf mode) k (upper ++ tail)) (upper ++ tail) (stepFates (readingOf mode) k (upper ++ tail))))
+    ≡ recordsFrom (formShape F) (length upper) (lowers (length (stepOf (readingOf mode) k upper)) (wentsOf (stepOf (readingOf mode) k tail) tail (stepFates (readingOf mode) k tail)))
 unfolding fileOf
-cut-records {k} c mode upper tail h s o =
-    let F : Shape = formShape form.Ol in
+cut-records {k} c form mode upper tail h s o =
+    let F : Shape = formShape form in
     let n : ℕ = length upper in
     let ws : List Went = wentsOf (stepOf (readingOf mode) k (upper ++ tail)) (upper ++ tail) (stepFates (readingOf mode) k (upper ++ tail)) in
     let q : length (take n ws) ≡ n = omega (arith, length-take n ws, pass-stand mode k (upper ++ tail) .each, length-append upper tail) in
     let z : n + 0 ≡ n = omega arith in
-    ap (λ (xs : List Went). drop (7 * n) (recordsFrom F 0 xs)) (sym (take-append-drop n ws))
-    ∙ ap (λ (i : ℕ). drop (7 * i) (recordsFrom F 0 (take n ws ++ drop n ws))) (sym q)
+    ap (λ (xs : List Went). drop (sizeOf F * n) (recordsFrom F 0 xs)) (sym (take-append-drop n ws))
+    ∙ ap (λ (i : ℕ). drop (sizeOf F * i) (recordsFrom F 0 (take n ws ++ drop n ws))) (sym q)
     ∙ records-drop F (take n ws) (drop n ws) 0
     ∙ ap (λ (i : ℕ). recordsFrom F (i + 0) (drop n ws)) q
     ∙ ap (λ (i : ℕ). recordsFrom F i (drop n ws)) z

@@ -17,6 +17,9 @@ out-once result d p f g = f ∙ (ap (λ r. outAfter r result d) p ∙ sym g)
 pub small-fixed : Determined limits.small.ended (λ κs z. z) limits.small.Reads.ensures
 small-fixed = fixed limits.small.Reads.Learnt (λ κs a x y l m. l ∙ sym m)
 
+pub large-fixed : Determined limits.large.ended (λ κs z. z) limits.large.Reads.ensures
+large-fixed = fixed limits.large.Reads.Learnt (λ κs a x y l m. l ∙ sym m)
+
 pub byte-size-fixed : Determined limits.byte_size.ended (λ κs z. z) limits.byte_size.Reads.ensures
 byte-size-fixed = fixed limits.byte_size.Reads.Learnt (λ κs a x y l m. l ∙ sym m)
 
@@ -31,6 +34,9 @@ place-of-fixed = fixed limits.place_of.Reads.Learnt (λ κs a x y l m. l ∙ sym
 
 pub too-short-fixed : Determined limits.too_short.ended (λ κs z. z) limits.too_short.Reads.ensures
 too-short-fixed = fixed limits.too_short.Reads.Learnt (λ κs a x y l m. l ∙ sym m)
+
+pub tables-short-fixed : Determined limits.tables_short.ended (λ κs z. z) limits.tables_short.Reads.ensures
+tables-short-fixed = fixed limits.tables_short.Reads.Learnt (λ κs a x y l m. l ∙ sym m)
 
 pub refused-fixed : Determined limits.refused.ended (λ κs z. z) limits.refused.Reads.ensures
 refused-fixed = fixed limits.refused.Reads.Learnt (λ κs a x y l m. l ∙ sym m)

@@ -3,7 +3,7 @@ use Prim.Native.Nat.{ℕ}
 use mathlib.Core.Bool.{Bool, _||_}
 use lib.Dec.{eqb}
 use Rattle.limits.specs.declared.Answer.{Answer}
-use Rattle.limits.specs.declared.Answer.the-variants.{Done, BadPass, TooLong, ShortWork, NotUtf8, TooManyLines, Crowded, ShortResult, Cut, Overlong, Outside, BadMode, ShortRecords}
+use Rattle.limits.specs.declared.Answer.the-variants.{Done, BadPass, TooLong, ShortWork, NotUtf8, TooManyLines, Crowded, ShortResult, Cut, Overlong, Outside, BadMode, ShortRecords, WideLines}
 
 unfoldable pub numberOf : Answer → ℕ
 numberOf (Done n) = 0
@@ -19,6 +19,7 @@ numberOf (Overlong i) = 10
 numberOf (Outside i) = 11
 numberOf BadMode = 12
 numberOf (ShortRecords n) = 8
+numberOf WideLines = 13
 
 -- a refusal has length 0
 unfoldable pub lengthOf : Answer → ℕ
@@ -35,6 +36,7 @@ lengthOf (Overlong i) = 0
 lengthOf (Outside i) = 0
 lengthOf BadMode = 0
 lengthOf (ShortRecords n) = 0
+lengthOf WideLines = 0
 
 unfoldable pub placeOf : Answer → ℕ
 placeOf (Done n) = 0
@@ -50,6 +52,7 @@ placeOf (Overlong i) = i
 placeOf (Outside i) = i
 placeOf BadMode = 0
 placeOf (ShortRecords n) = n
+placeOf WideLines = 65535
 
 -- the result was written: number 0
 unfoldable pub isDone : Answer → Bool

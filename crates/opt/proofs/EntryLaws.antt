@@ -1,17 +1,17 @@
 -- Laws of the sizes, of what an answer leaves in all buffers, and of the passes that an entry runs. Assumes nothing.
 use Prim.Native.Nat.{ℕ, _+_, _-_, _≤_}
 use mathlib.Core.Path.{_≡_, refl, sym, ap, subst, _∙_}
-use mathlib.Core.Bool.{Bool, true, false, _||_}
-use mathlib.Core.List.{List, _++_, append-nil}
+use mathlib.Core.Bool.{Bool, true, false, cond, _||_}
+use mathlib.Core.List.{List, [], _++_, append-nil}
 use native.Mathlib.Omega.{arith}
 use borrow.Author.Tests.{ltb-false}
 use lib.Dec.{ltb}
-use lib.ListN.{length, take, drop, replicate, length-append, length-drop, length-replicate}
+use lib.ListN.{length, take, drop, replicate, length-append, length-drop, length-replicate, take-append-drop}
 use lib.Seq.{length-take-le, drop-length}
 use Rattle.lines.specs.Lf.{endsIn}
 use Rattle.lines.specs.Steps.{splitLines, joined}
 use Rattle.lines.proofs.Tests.{no}
-use Rattle.origins.specs.declared.Form.the-variants as form
+use Rattle.origins.specs.declared.Form.{Form}
 use Rattle.origins.specs.Form.{formShape, fileOf}
 use Rattle.origins.specs.Fates.{Fate, follow, staying, wentsOf}
 use Rattle.origins.proofs.FateLaws.{follow-stay}
@@ -27,17 +27,18 @@ use Rattle.decls.specs.Decls.{pruneDecls}
 use Rattle.limits.specs.declared.Limits.{Limits}
 use Rattle.limits.specs.declared.Task.{Task}
 use Rattle.limits.specs.declared.Answer.{Answer}
-use Rattle.limits.specs.Answer.{passesRan}
-use Rattle.limits.proofs.AnswerLaws.{work-kept, work-wiped, roomed-runs}
+use Rattle.limits.specs.declared.Answer.the-variants.{Done}
+use Rattle.limits.specs.Answer.{isDone, passesRan}
+use Rattle.limits.proofs.AnswerLaws.{work-kept, work-wiped, roomed-runs, answer-refused, short-refused}
 use Rattle.steps.specs.Step.{stepOf, stepFates}
 use Rattle.steps.proofs.Goings.{step-goes}
 use Rattle.passes.specs.Passes.{resultOf, originsOf}
 use Rattle.passes.specs.Inner.Passes.{stepsOf, stepsFates}
 use Rattle.passes.specs.Inner.Buffers.{Unused}
 use Rattle.opt.specs.Whole.{whole, wholeFates}
-use Rattle.limits.specs.Entry.{byteSize, blockSize, isShort, roomed, wholeAnswer, outAfter, workAfter, blank}
-use Rattle.opt.specs.Room.{After}
-use Rattle.opt.specs.Inner.Room.{Long, Wiped, Tables}
+use Rattle.limits.specs.Entry.{byteSize, blockSize, lineSize, noteSize, owners, places, isShort, tablesShort, checked, roomed, inMode, wholeAnswer, outAfter, workAfter, blank}
+use Rattle.opt.specs.Room.{After, AfterLarge}
+use Rattle.opt.specs.Inner.Room.{Long, Wiped, Tables, TallPlaces, TallRows}
 
 -- ---- the sizes
 
@@ -60,6 +61,38 @@ long-by L a b c d e u h =
       e-long = ltb-false (length e) (byteSize L) (t .0);
       u-long = ltb-false (length u) (blockSize L) (t .1);
     }
+
+-- where no table is too short
+pub tall-by : (L : Limits) {f g h v w x p q r t o z : List ℕ} → tablesShort L (length f) (length g) (length h) (length v) (length w) (length x) (length p) (length q) (length r) (length t) (length o) (length z) ≡ false → TallPlaces places owners f g r t o × TallRows (lineSize L) (noteSize L) h v w x p q z
+tall-by L {f} {g} {h} {v} {w} {x} {p} {q} {r} {t} {o} {z} k =
+    let kf = or-none (ltb (length f) places) _ k in
+    let kg = or-none (ltb (length g) places) _ (kf .1) in
+    let kh = or-none (ltb (length h) (lineSize L)) _ (kg .1) in
+    let kv = or-none (ltb (length v) (noteSize L)) _ (kh .1) in
+    let kw = or-none (ltb (length w) (noteSize L)) _ (kv .1) in
+    let kx = or-none (ltb (length x) (noteSize L)) _ (kw .1) in
+    let kp = or-none (ltb (length p) (lineSize L)) _ (kx .1) in
+    let kq = or-none (ltb (length q) (lineSize L)) _ (kp .1) in
+    let kr = or-none (ltb (length r) places) _ (kq .1) in
+    let kt = or-none (ltb (length t) places) _ (kr .1) in
+    let ko = or-none (ltb (length o) owners) _ (kt .1) in (
+      record {
+        f-tall = ltb-false (length f) places (kf .0);
+        g-tall = ltb-false (length g) places (kg .0);
+        r-tall = ltb-false (length r) places (kr .0);
+        t-tall = ltb-false (length t) places (kt .0);
+        o-tall = ltb-false (length o) owners (ko .0);
+      },
+      record {
+        h-tall = ltb-false (length h) (lineSize L) (kh .0);
+        v-tall = ltb-false (length v) (noteSize L) (kv .0);
+        w-tall = ltb-false (length w) (noteSize L) (kw .0);
+        x-tall = ltb-false (length x) (noteSize L) (kx .0);
+        p-tall = ltb-false (length p) (lineSize L) (kp .0);
+        q-tall = ltb-false (length q) (lineSize L) (kq .0);
+        z-tall = ltb-false (length z) (lineSize L) (ko .1);
+      },
+    )
 
 -- a table of n places
 pub table : (n : ℕ) {m : ℕ} → m ≤ n → m ≤ length {A = ℕ} (replicate n 0)
@@ -146,6 +179,35 @@ tables-wiped {y} n room need have {f} {g} {h} {v} {w} {x} {p} {q} {r} {t} {o} {z
       z-after = table-wiped y z k (a .z-unused);
     }
 
+-- the front of a table after an answer, and the rest as it was
+after-by : (b : Bool) (n : ℕ) (d : List ℕ) {xs : List ℕ} → n ≤ length d → xs ≡ cond b (blank (length (take n d)) ++ drop (length (take n d)) (take n d)) (take n d) → xs ++ drop n d ≡ cond b (blank n ++ drop n d) d
+after-by true n d {xs} h e = ap (λ (x : List ℕ). x ++ drop n d) (e ∙ whole-part)
+  where
+    whole-part : blank (length (take n d)) ++ drop (length (take n d)) (take n d) ≡ blank n
+    whole-part = ap (λ (x : List ℕ). blank (length (take n d)) ++ x) (drop-length (take n d)) ∙ append-nil (blank (length (take n d))) ∙ ap blank (sym (stated n d h))
+after-by false n d h e = ap (λ (x : List ℕ). x ++ drop n d) e ∙ take-append-drop n d
+
+pub part-after : (y : Answer) (n : ℕ) (d : List ℕ) {xs : List ℕ} → n ≤ length d → xs ≡ workAfter y (length (take n d)) (take n d) → xs ++ drop n d ≡ workAfter y n d
+unfolding workAfter
+part-after y n d h e = after-by (passesRan y) n d h e
+
+pub large-kept : (L : Limits) (y : Answer) (a b c d e f g h u v w x p q r t o z : List ℕ) → passesRan y ≡ false → AfterLarge L y a b c d e f g h u v w x p q r t o z a b c d e f g h u v w x p q r t o z
+large-kept L y a b c d e f g h u v w x p q r t o z k = record {
+  buffers = all-kept L y a b c d e u k;
+  f-after = work-kept y places f k;
+  g-after = work-kept y places g k;
+  h-after = work-kept y (lineSize L) h k;
+  v-after = work-kept y (noteSize L) v k;
+  w-after = work-kept y (noteSize L) w k;
+  x-after = work-kept y (noteSize L) x k;
+  p-after = work-kept y (lineSize L) p k;
+  q-after = work-kept y (lineSize L) q k;
+  r-after = work-kept y places r k;
+  t-after = work-kept y places t k;
+  o-after = work-kept y owners o k;
+  z-after = work-kept y (lineSize L) z k;
+}
+
 -- ---- which passes an entry runs
 
 pub steps-whole : (R : Reading) (ls : List (List ℕ)) → stepsOf R 0 7 ls ≡ whole R ls
@@ -183,33 +245,51 @@ fates-whole {R} c ls =
     ap (λ (fs : List Fate). follow (stepFates R 0 ls) (follow (stepFates R 1 a) (follow (stepFates R 2 b) (follow (stepFates R 3 d) (follow (stepFates R 4 e) (follow (stepFates R 5 f) fs))))))
     (sym (stay-after c 6 g))
 
-pub origins-whole : {R : Reading} {shut : List (List ℕ) → Bool} → Lined R shut → (t : List ℕ) → originsOf (whole R) (wholeFates R) t ≡ originsOf (stepsOf R 0 7) (stepsFates R 0 7) t
+pub origins-whole : {R : Reading} {shut : List (List ℕ) → Bool} → Lined R shut → (F : Form) (t : List ℕ) → originsOf F (whole R) (wholeFates R) t ≡ originsOf F (stepsOf R 0 7) (stepsFates R 0 7) t
 unfolding originsOf
-origins-whole {R} c t =
+origins-whole {R} c F t =
     let ls : List (List ℕ) = splitLines t in
-    ap (λ (out : List (List ℕ)). fileOf (formShape form.Ol) (wentsOf out ls (wholeFates R ls))) (sym (steps-whole R ls))
-    ∙ ap (λ (fs : List Fate). fileOf (formShape form.Ol) (wentsOf (stepsOf R 0 7 ls) ls fs)) (fates-whole c ls)
+    ap (λ (out : List (List ℕ)). fileOf (formShape F) (wentsOf out ls (wholeFates R ls))) (sym (steps-whole R ls))
+    ∙ ap (λ (fs : List Fate). fileOf (formShape F) (wentsOf (stepsOf R 0 7 ls) ls fs)) (fates-whole c ls)
 
 fates-one : {R : Reading} {shut : List (List ℕ) → Bool} → Lined R shut → (k : ℕ) (ls : List (List ℕ)) → stepsFates R k 1 ls ≡ stepFates R k ls
 unfolding stepsFates
 fates-one c k ls = stay-after c k ls
 
-pub origins-one : {R : Reading} {shut : List (List ℕ) → Bool} → Lined R shut → (k : ℕ) (t : List ℕ) → originsOf (stepOf R k) (stepFates R k) t ≡ originsOf (stepsOf R k (k + 1 - k)) (stepsFates R k (k + 1 - k)) t
+pub origins-one : {R : Reading} {shut : List (List ℕ) → Bool} → Lined R shut → (F : Form) (k : ℕ) (t : List ℕ) → originsOf F (stepOf R k) (stepFates R k) t ≡ originsOf F (stepsOf R k (k + 1 - k)) (stepsFates R k (k + 1 - k)) t
 unfolding originsOf
-origins-one {R} c k t =
+origins-one {R} c F k t =
     let ls : List (List ℕ) = splitLines t in
     let q : k + 1 - k ≡ 1 = omega arith in
-    ap (λ (out : List (List ℕ)). fileOf (formShape form.Ol) (wentsOf out ls (stepFates R k ls))) (sym (ap (λ (n : ℕ). stepsOf R k n ls) q ∙ steps-one R k ls))
-    ∙ ap (λ (fs : List Fate). fileOf (formShape form.Ol) (wentsOf (stepsOf R k (k + 1 - k) ls) ls fs)) (sym (ap (λ (n : ℕ). stepsFates R k n ls) q ∙ fates-one c k ls))
+    ap (λ (out : List (List ℕ)). fileOf (formShape F) (wentsOf out ls (stepFates R k ls))) (sym (ap (λ (n : ℕ). stepsOf R k n ls) q ∙ steps-one R k ls))
+    ∙ ap (λ (fs : List Fate). fileOf (formShape F) (wentsOf (stepsOf R k (k + 1 - k) ls) ls fs)) (sym (ap (λ (n : ℕ). stepsFates R k n ls) q ∙ fates-one c k ls))
+
+-- ---- where a table is too short
+
+or-last : (b : Bool) {k : Bool} → k ≡ true → b || k ≡ true
+or-last true h = refl
+or-last false h = h
+
+pub or-neither : (b : Bool) {k : Bool} → k ≡ false → b || k ≡ b
+or-neither true h = refl
+or-neither false h = h
+
+-- a text is refused, whatever the other buffers are
+pub short-answer : (r : Answer) (L : Limits) (F : Form) (mode : ℕ) (b : Bool) {k : Bool} (t xs : List ℕ) (room have : ℕ) → k ≡ true → r ≡ inMode mode (checked L F true t (Done 0)) →
+    (r ≡ wholeAnswer L F mode (b || k) t xs room have) × ((isDone r ≡ false) × (passesRan r ≡ false))
+short-answer r L F mode b t xs room have h e =
+    let d : isDone r ≡ false = ap isDone e ∙ short-refused L F mode t in
+    let p = answer-refused r L F mode true t xs room have e d in
+    (p .0 ∙ ap (λ (s : Bool). wholeAnswer L F mode s t xs room have) (sym (or-last b h)), (d, p .1))
 
 -- ---- the task of an entry
 
 -- what `tidy` promises: r the answer, t the text, o the result buffer, z the one for records, a to u the work buffers
 abbrev Tidied : Task → Answer → (t o z a b c d e u o′ z′ a′ b′ c′ d′ e′ u′ : List ℕ) → Type 0
 Tidied m r t o z a b c d e u o′ z′ a′ b′ c′ d′ e′ u′ =
-    (r ≡ wholeAnswer (m .limits) (m .mode .0) (isShort (m .limits) (length a) (length b) (length c) (length d) (length e) (length u)) t (resultOf (stepsOf (readingOf (m .mode .0)) (m .from) (m .to - m .from)) t) (length o) (length z))
+    (r ≡ wholeAnswer (m .limits) (m .form) (m .mode .0) (isShort (m .limits) (length a) (length b) (length c) (length d) (length e) (length u)) t (resultOf (stepsOf (readingOf (m .mode .0)) (m .from) (m .to - m .from)) t) (length o) (length z))
     × (((o′ ≡ outAfter r (resultOf (stepsOf (readingOf (m .mode .0)) (m .from) (m .to - m .from)) t) o) × After (m .limits) r a b c d e u a′ b′ c′ d′ e′ u′)
-    × (z′ ≡ outAfter r (originsOf (stepsOf (readingOf (m .mode .0)) (m .from) (m .to - m .from)) (stepsFates (readingOf (m .mode .0)) (m .from) (m .to - m .from)) t) z))
+    × (z′ ≡ outAfter r (originsOf (m .form) (stepsOf (readingOf (m .mode .0)) (m .from) (m .to - m .from)) (stepsFates (readingOf (m .mode .0)) (m .from) (m .to - m .from)) t) z))
 
 -- it is promised of the task that the entry made
 pub tidied-as : {m n : Task} {r : Answer} (t o z a b c d e u : List ℕ) {o′ z′ a′ b′ c′ d′ e′ u′ : List ℕ} → m ≡ n → Tidied m r t o z a b c d e u o′ z′ a′ b′ c′ d′ e′ u′ → Tidied n r t o z a b c d e u o′ z′ a′ b′ c′ d′ e′ u′

@@ -28,15 +28,17 @@ use Rattle.calls.specs.Calls.{rebuildCalls}
 use Rattle.decls.specs.Decls.{pruneDecls}
 use Rattle.bind.specs.Bind.{bindDeclarators}
 use Rattle.reading.proofs.Lined.{Lined}
+use Rattle.origins.specs.declared.Form.{Form}
+use Rattle.origins.specs.declared.Form.the-variants as form
 use Rattle.limits.specs.declared.Limits.{Limits}
 use Rattle.limits.specs.declared.Answer.{Answer}
-use Rattle.limits.specs.declared.Answer.the-variants.{Done, BadPass, BadMode, TooLong, ShortWork, TooManyLines, ShortResult, ShortRecords}
+use Rattle.limits.specs.declared.Answer.the-variants.{Done, BadPass, BadMode, TooLong, ShortWork, TooManyLines, ShortResult, ShortRecords, WideLines}
 use Rattle.limits.specs.Answer.{numberOf, isDone}
 use Rattle.steps.specs.Step.{stepOf}
 use Rattle.passes.specs.Passes.{resultOf}
 use Rattle.passes.specs.Inner.Passes.{stepsOf}
 use Rattle.opt.specs.Whole.{whole}
-use Rattle.limits.specs.Entry.{byUtf8, byCrowd, checkedLines, checked, recordsNeed, roomed, answerOf, modes, wholeAnswer, passAnswer, outAfter}
+use Rattle.limits.specs.Entry.{large, isWide, byUtf8, byCrowd, checkedLines, checked, recordsNeed, roomed, answerOf, modes, wholeAnswer, passAnswer, outAfter}
 use Rattle.steps.proofs.Tame.{Tame, tame-step}
 use Rattle.passes.proofs.Between.{tame-steps}
 use Rattle.limits.proofs.AnswerLaws.{Accepted, mode-bad, mode-good, answer-accepted, pass-bad, pass-good, text-long, lines-many}
@@ -51,14 +53,14 @@ unfolding resultOf whole
 result-composed R t = refl
 
 -- where there is such a mode, no check refuses a text, and the result buffer d and the one for records are long enough, the answer is the result's length, and the result stands at the front of d
-pub optimize-whole : (L : Limits) (mode : ℕ) (short : Bool) (t d : List ℕ) → mode < modes → Accepted L short t → length (resultOf (whole (readingOf mode)) t) ≤ length d → (have : ℕ) → recordsNeed t ≤ have →
-    (wholeAnswer L mode short t (resultOf (whole (readingOf mode)) t) (length d) have ≡ Done (length (resultOf (whole (readingOf mode)) t)))
+pub optimize-whole : (L : Limits) (F : Form) (mode : ℕ) (short : Bool) (t d : List ℕ) → mode < modes → Accepted L F short t → length (resultOf (whole (readingOf mode)) t) ≤ length d → (have : ℕ) → recordsNeed F t ≤ have →
+    (wholeAnswer L F mode short t (resultOf (whole (readingOf mode)) t) (length d) have ≡ Done (length (resultOf (whole (readingOf mode)) t)))
     × (outAfter (Done (length (resultOf (whole (readingOf mode)) t))) (resultOf (whole (readingOf mode)) t) d ≡ resultOf (whole (readingOf mode)) t ++ drop (length (resultOf (whole (readingOf mode)) t)) d)
 unfolding outAfter isDone numberOf
-optimize-whole L mode short t d m p h have k =
+optimize-whole L F mode short t d m p h have k =
     let n : ℕ = length (resultOf (whole (readingOf mode)) t) in
-    let q : Done n ≡ roomed n (length d) (recordsNeed t) have = rw (le-ltb (length d) n h, le-ltb have (recordsNeed t) k) in
-    (sym (answer-accepted L mode short t (resultOf (whole (readingOf mode)) t) (length d) have (λ y. sym (mode-good mode m refl)) p q), refl)
+    let q : Done n ≡ roomed n (length d) (recordsNeed F t) have = rw (le-ltb (length d) n h, le-ltb have (recordsNeed F t) k) in
+    (sym (answer-accepted L F mode short t (resultOf (whole (readingOf mode)) t) (length d) have (λ y. sym (mode-good mode m refl)) p q), refl)
 
 -- ---- no result is longer than twice its text
 
@@ -125,34 +127,38 @@ pass-twice {R} c k t = result-twice (stepOf R k) t (tame-step c k)
 
 -- ---- the edges: one more is refused, the last that fits goes on to the next check
 
-module _ (L : Limits) (short : Bool) (t xs : List ℕ) (room have : ℕ) where
-  pub bytes-over : length t ≡ suc (L .bytes) → answerOf L short t xs room have ≡ TooLong (L .bytes)
+module _ (L : Limits) (F : Form) (short : Bool) (t xs : List ℕ) (room have : ℕ) where
+  pub bytes-over : length t ≡ suc (L .bytes) → answerOf L F short t xs room have ≡ TooLong (L .bytes)
   unfolding answerOf
-  bytes-over e = sym (text-long L t (roomed (length xs) room (recordsNeed t) have) short (omega arith))
+  bytes-over e = sym (text-long L F t (roomed (length xs) room (recordsNeed F t) have) short (omega arith))
 
-  pub bytes-edge : length t ≡ L .bytes → answerOf L short t xs room have ≡ cond short ShortWork (byUtf8 (utf8Of t) t (checkedLines L t (roomed (length xs) room (recordsNeed t) have)))
+  pub bytes-edge : length t ≡ L .bytes → answerOf L F short t xs room have ≡ cond short ShortWork (byUtf8 (utf8Of t) t (checkedLines L F t (roomed (length xs) room (recordsNeed F t) have)))
   unfolding answerOf checked
   bytes-edge e = rw (le-ltb (L .bytes) (length t) (omega arith))
 
 -- the mode is looked at first of all by the entry for all passes, and just after the pass by the one for a pass
-module _ (L : Limits) (mode : ℕ) (short : Bool) (t xs : List ℕ) (room have : ℕ) (h : modes ≤ mode) where
-  pub mode-first : wholeAnswer L mode short t xs room have ≡ BadMode
+module _ (L : Limits) (F : Form) (mode : ℕ) (short : Bool) (t xs : List ℕ) (room have : ℕ) (h : modes ≤ mode) where
+  pub mode-first : wholeAnswer L F mode short t xs room have ≡ BadMode
   unfolding wholeAnswer
-  mode-first = sym (mode-bad mode (answerOf L short t xs room have) h)
+  mode-first = sym (mode-bad mode (answerOf L F short t xs room have) h)
 
-  pub mode-second : (k : ℕ) → within 1 6 k ≡ true → passAnswer L k mode short t xs room have ≡ BadMode
-  mode-second k p = sym (pass-good L k mode short t xs room have p) ∙ mode-first
+  pub mode-second : (k : ℕ) → within 1 6 k ≡ true → passAnswer L F k mode short t xs room have ≡ BadMode
+  mode-second k p = sym (pass-good L F k mode short t xs room have p) ∙ mode-first
 
-pub pass-first : (L : Limits) (k mode : ℕ) (short : Bool) (t xs : List ℕ) (room have : ℕ) → within 1 6 k ≡ false → passAnswer L k mode short t xs room have ≡ BadPass
-pass-first L k mode short t xs room have h = sym (pass-bad L k mode short t xs room have h)
+pub pass-first : (L : Limits) (F : Form) (k mode : ℕ) (short : Bool) (t xs : List ℕ) (room have : ℕ) → within 1 6 k ≡ false → passAnswer L F k mode short t xs room have ≡ BadPass
+pass-first L F k mode short t xs room have h = sym (pass-bad L F k mode short t xs room have h)
 
-module _ (L : Limits) (t : List ℕ) (x : Answer) where
-  pub lines-over : length (splitLines t) ≡ suc (L .lines) → checkedLines L t x ≡ TooManyLines (L .lines)
-  lines-over e = sym (lines-many L t x (omega arith))
+module _ (L : Limits) (F : Form) (t : List ℕ) (x : Answer) where
+  pub lines-over : length (splitLines t) ≡ suc (L .lines) → checkedLines L F t x ≡ TooManyLines (L .lines)
+  lines-over e = sym (lines-many L F t x (omega arith))
 
-  pub lines-edge : length (splitLines t) ≡ L .lines → checkedLines L t x ≡ byCrowd (overFrom 64 91 0 (splitLines t)) x
+  pub lines-edge : length (splitLines t) ≡ L .lines → checkedLines L F t x ≡ cond (isWide F (L .lines)) WideLines (byCrowd (overFrom 64 91 0 (splitLines t)) x)
   unfolding checkedLines
-  lines-edge e = rw (le-ltb (L .lines) (length (splitLines t)) (omega arith))
+  lines-edge e = rw (le-ltb (L .lines) (length (splitLines t)) (omega arith), e)
+
+-- the form `OL` has numbers for 65,535 lines, and none for one more; `OM` for as many as the second pair takes
+pub wide-edge : (isWide form.Ol 65535 ≡ false) × ((isWide form.Ol 65536 ≡ true) × (isWide form.Om (large .lines) ≡ false))
+wide-edge = (refl, (refl, refl))
 
 -- 64 brackets on a line pass, 65 do not
 pub brackets-edge : overFrom 64 91 0 (replicate 64 91 ∷ []) ≡ crowd-is.Nowhere

@@ -4,6 +4,7 @@ use mathlib.Core.Path.{_≡_, refl, sym, ap, _∙_}
 use mathlib.Core.Bool.{Bool, true, false, cond}
 use mathlib.Core.List.{List, [], _∷_}
 use native.Mathlib.Omega.{arith}
+use native.Mathlib.Nat.{le-trans, le-of-eq, mul-le-mul-left, mul-le-mul-right}
 use borrow.Author.Tests.{ltb-false}
 use lib.Dec.{ltb}
 use lib.ListN.{length, take, replicate}
@@ -13,9 +14,10 @@ use Rattle.lines.specs.Steps.{splitLines, joined}
 use Rattle.lines.proofs.LfLaws.{lines-unlines}
 use Rattle.lines.proofs.StepLaws.{split-noLf, split-room}
 use Rattle.slots.proofs.SlotLaws.{wiped-zeros}
+use Rattle.origins.specs.declared.Form.{Form}
 use Rattle.origins.specs.declared.Form.the-variants as form
 use Rattle.origins.specs.declared.Went.{Went}
-use Rattle.origins.specs.Form.{formShape, fileOf}
+use Rattle.origins.specs.Form.{formShape, sizeOf, fileOf}
 use Rattle.origins.specs.Fates.{Fate, wentsOf}
 use Rattle.origins.specs.Inner.Codes.{half, codesOf}
 use Rattle.origins.specs.Inner.Written.{leftOver, wentsBy}
@@ -81,15 +83,28 @@ wents-most out [] cs = omega arith
 wents-most out (l ∷ ls) [] = omega arith
 wents-most out (l ∷ ls) (c ∷ cs) = let h = wents-most (leftOver c out) ls cs in omega arith
 
+-- a record is not long, so that their length is a number
+size-most : (F : Form) → sizeOf (formShape F) ≤ 11
+size-most form.Ol = omega arith
+size-most form.Om = omega arith
+
+pub need-fits : (F : Form) (n : ℕ) {k : ℕ} → k ≡ sizeOf (formShape F) → n < 2 ^ 32 → k * n < 2 ^ 64
+need-fits F n {k} e h = let l : k ≤ 11 = omega (arith, e, size-most F) in omega (arith, mul-le-mul-right n l)
+
 -- where the answer is `Done` they have room
-pub records-fit : (y : Answer) (n room k have : ℕ) (out ls : List (List ℕ)) (cs : List ℕ) → y ≡ roomed n room (7 * k) have → numberOf y ≡ 0 → k ≡ length cs → length (fileOf (formShape form.Ol) (wentsBy out ls cs)) ≤ have
+pub records-fit : (F : Form) (y : Answer) (n room k have : ℕ) (out ls : List (List ℕ)) (cs : List ℕ) → y ≡ roomed n room (sizeOf (formShape F) * k) have → numberOf y ≡ 0 → k ≡ length cs → length (fileOf (formShape F) (wentsBy out ls cs)) ≤ have
 unfolding numberOf
-records-fit y n room k have out ls cs e z q = omega (arith, file-length (formShape form.Ol) (wentsBy out ls cs), wents-most out ls cs, enough (ltb room n) (ltb have (7 * k)) refl (ap numberOf (sym e) ∙ z))
+records-fit F y n room k have out ls cs e z q =
+    let m : length (wentsBy out ls cs) ≤ k = omega (arith, wents-most out ls cs, q) in
+    le-trans (le-of-eq (file-length (formShape F) (wentsBy out ls cs))) (le-trans (mul-le-mul-left (sizeOf (formShape F)) m) (enough (ltb room n) (ltb have need) refl (ap numberOf (sym e) ∙ z)))
   where
-    enough : (b d : Bool) → ltb have (7 * k) ≡ d → numberOf (cond b (ShortResult n) (cond d (ShortRecords (7 * k)) (Done n))) ≡ 0 → 7 * k ≤ have
+    need : ℕ
+    need = sizeOf (formShape F) * k
+
+    enough : (b d : Bool) → ltb have need ≡ d → numberOf (cond b (ShortResult n) (cond d (ShortRecords need) (Done n))) ≡ 0 → need ≤ have
     enough true d p w = absurd (omega (arith, w))
     enough false true p w = absurd (omega (arith, w))
-    enough false false p w = ltb-false have (7 * k) p
+    enough false false p w = ltb-false have need p
 
 pub records-done : (y : Answer) {d xs d′ : List ℕ} {r : ℕ} → isDone y ≡ true → Wrote d 0 xs d′ r → d′ ≡ outAfter y xs d
 unfolding outAfter isDone numberOf
@@ -108,21 +123,21 @@ module _ {f : List (List ℕ) → List (List ℕ)} (t : List ℕ) {a : List ℕ}
 
   -- r is the answer, and d the result buffer
   module _ (r : Answer) (d : List ℕ) where
-    pub front-answer : (k have : ℕ) → k ≡ length (splitLines t) → r ≡ roomed (length (joined (endsIn 10 t) (linesOf (take n a)))) (length d) (7 * k) have → r ≡ roomed (length (resultOf f t)) (length d) (recordsNeed t) have
-    front-answer k have q e = e ∙ ap (λ (x : List ℕ). roomed (length x) (length d) (7 * k) have) front-result ∙ ap (λ (i : ℕ). roomed (length (resultOf f t)) (length d) (7 * i) have) q
+    pub front-answer : (F : Form) (k have : ℕ) → k ≡ length (splitLines t) → r ≡ roomed (length (joined (endsIn 10 t) (linesOf (take n a)))) (length d) (sizeOf (formShape F) * k) have → r ≡ roomed (length (resultOf f t)) (length d) (recordsNeed F t) have
+    front-answer F k have q e = e ∙ ap (λ (x : List ℕ). roomed (length x) (length d) (sizeOf (formShape F) * k) have) front-result ∙ ap (λ (i : ℕ). roomed (length (resultOf f t)) (length d) (sizeOf (formShape F) * i) have) q
 
     pub front-out : {d′ : List ℕ} → d′ ≡ outAfter r (joined (endsIn 10 t) (linesOf (take n a))) d → d′ ≡ outAfter r (resultOf f t) d
     front-out e = e ∙ ap (λ (x : List ℕ). outAfter r x d) front-result
 
     -- d is the buffer for records, and cs are the codes of the text's lines
-    pub front-records : (fates : List (List ℕ) → List Fate) {cs d′ : List ℕ} → Goes (length (splitLines t)) (length (f (splitLines t))) (fates (splitLines t)) → length (splitLines t) < half - 1 → cs ≡ codesOf (fates (splitLines t)) →
-        d′ ≡ outAfter r (fileOf (formShape form.Ol) (wentsBy (linesOf (take n a)) (splitLines t) cs)) d → d′ ≡ outAfter r (originsOf f fates t) d
+    pub front-records : (F : Form) (fates : List (List ℕ) → List Fate) {cs d′ : List ℕ} → Goes (length (splitLines t)) (length (f (splitLines t))) (fates (splitLines t)) → length (splitLines t) < half - 1 → cs ≡ codesOf (fates (splitLines t)) →
+        d′ ≡ outAfter r (fileOf (formShape F) (wentsBy (linesOf (take n a)) (splitLines t) cs)) d → d′ ≡ outAfter r (originsOf F f fates t) d
     unfolding originsOf
-    front-records fates {cs} g k e q =
+    front-records F fates {cs} g k e q =
         let ls : List (List ℕ) = splitLines t in
         let w : wentsBy (linesOf (take n a)) ls cs ≡ wentsOf (f ls) ls (fates ls) =
         ap (λ (out : List (List ℕ)). wentsBy out ls cs) front-lines ∙ ap (wentsBy (f ls) ls) e ∙ in-step (f ls) ls (fates ls) (length (f ls)) 0 (goes-under g (omega (arith, p .counts ls))) (g .each) in
-        q ∙ ap (λ (ws : List Went). outAfter r (fileOf (formShape form.Ol) ws) d) w
+        q ∙ ap (λ (ws : List Went). outAfter r (fileOf (formShape F) ws) d) w
 
 -- ---- a text within limits has few lines
 

@@ -4,8 +4,7 @@ ghost use Prim.Native.Nat.{_≤_, _<_, _-_, _*_, _^_};
 ghost use lib.ListN.{length, take};
 ghost use Rattle.lines.specs.Lf.{endsIn, linesOf, unlines};
 ghost use Rattle.lines.specs.Steps.{splitLines, joined};
-ghost use Rattle.origins.specs.declared.Form.the-variants as form;
-ghost use Rattle.origins.specs.Form.{formShape, fileOf};
+ghost use Rattle.origins.specs.Form.{formShape, sizeOf, fileOf};
 ghost use Rattle.origins.specs.Inner.Codes.{codesOf};
 ghost use Rattle.origins.specs.Inner.Written.{wentsBy};
 ghost use Rattle.reading.specs.Reading.{readingOf};
@@ -18,15 +17,17 @@ ghost use Rattle.passes.specs.Inner.Buffers.{Front, Blank, Unused};
 use limits::Task;
 use origins::Form;
 
-// How many bytes the record of a line takes.
-const RECORD: usize = 7;
-
 // The first `n` owners, where there are so many.
 fn front(own: &[usize], n: usize) -> &[usize] {
     if own.len() < n {
         return own;
     }
     &own[..n]
+}
+
+// How many numbers have a place of their own in two tables over registers, of n and k entries, of which the last h are those of owners.
+fn low_in(n: usize, k: usize, h: usize) -> usize {
+    slots::low_of(slots::shorter(n, k), h)
 }
 
 // Writes the lines of a text into a buffer, runs the passes of a task over them, and returns how many bytes they are then. `own` gets the numbers
@@ -60,7 +61,7 @@ fn chain(
 {
     let mut n = lines::split_lines(text, a);
     slots::wipe(table);
-    let low = slots::low_of(r.len(), own.len());
+    let low = low_in(r.len(), v.len(), own.len());
     slots::wipe(own);
     let high = slots::gather::gather(&a[..n], low, own);
     let to = m.to;
@@ -144,9 +145,10 @@ fn wipe_tables(
     slots::wipe(table);
 }
 
-// Joins lines into the result buffer, with a last LF where the text has one, and writes the records of the text's lines by their codes, where both
-// have room.
+// Joins lines into the result buffer, with a last LF where the text has one, and writes the records of the text's lines by their codes and in a form, where
+// both have room.
 fn put_all(
+    form: Form,
     lf: &[u8],
     text: &[u8],
     table: &[usize],
@@ -154,21 +156,22 @@ fn put_all(
     orig: &mut [u8],
 ) -> limits::Answer
     requires { ⌜ length (now table) < 2 ^ 32 ⌝ }
-    ensures answer { λ r. ⌜ r ≡ roomed (length (joined (endsIn 10 (now (text .entry))) (linesOf (now (lf .entry))))) (length (now (out .entry))) (7 * length (now (table .entry))) (length (now (orig .entry))) ⌝ }
+    ensures answer { λ r. ⌜ r ≡ roomed (length (joined (endsIn 10 (now (text .entry))) (linesOf (now (lf .entry))))) (length (now (out .entry))) (sizeOf (formShape form) * length (now (table .entry))) (length (now (orig .entry))) ⌝ }
     ensures result { λ r. ⌜ now (out .exit) ≡ outAfter r (joined (endsIn 10 (now (text .entry))) (linesOf (now (lf .entry)))) (now (out .entry)) ⌝ }
-    ensures records { λ r. ⌜ now (orig .exit) ≡ outAfter r (fileOf (formShape form.Ol) (wentsBy (linesOf (now (lf .entry))) (splitLines (now (text .entry))) (now (table .entry)))) (now (orig .entry)) ⌝ }
+    ensures records { λ r. ⌜ now (orig .exit) ≡ outAfter r (fileOf (formShape form) (wentsBy (linesOf (now (lf .entry))) (splitLines (now (text .entry))) (now (table .entry)))) (now (orig .entry)) ⌝ }
 {
     let ended = lines::ends_lf(text);
-    let need = RECORD * table.len();
+    let need = origins::size_of(form) * table.len();
     let r = limits::finish(lf, ended, need, orig.len(), out);
     if limits::number_of(r) == 0 {
-        origins::put_records(Form::Ol, text, lf, table, orig);
+        origins::put_records(form, text, lf, table, orig);
     }
     r
 }
 
-// Puts out the lines in the first `n` bytes of a buffer and the records, and makes every work buffer 0.
+// Puts out the lines in the first `n` bytes of a buffer and the records, in a form, and makes every work buffer 0.
 fn close(
+    form: Form,
     n: usize,
     text: &[u8],
     table: &[usize],
@@ -182,12 +185,12 @@ fn close(
     orig: &mut [u8],
 ) -> limits::Answer
     requires { ⌜ (n ≤ length (now a)) × (length (now table) < 2 ^ 32) ⌝ }
-    ensures answer { λ r. ⌜ r ≡ roomed (length (joined (endsIn 10 (now (text .entry))) (linesOf (take n (now (a .entry)))))) (length (now (out .entry))) (7 * length (now (table .entry))) (length (now (orig .entry))) ⌝ }
+    ensures answer { λ r. ⌜ r ≡ roomed (length (joined (endsIn 10 (now (text .entry))) (linesOf (take n (now (a .entry)))))) (length (now (out .entry))) (sizeOf (formShape form) * length (now (table .entry))) (length (now (orig .entry))) ⌝ }
     ensures memory { λ r. ⌜ (now (out .exit) ≡ outAfter r (joined (endsIn 10 (now (text .entry))) (linesOf (take n (now (a .entry))))) (now (out .entry)))
         × Blank (now (a .entry)) (now (b .entry)) (now (c .entry)) (now (d .entry)) (now (e .entry)) (now (u .entry)) (now (a .exit)) (now (b .exit)) (now (c .exit)) (now (d .exit)) (now (e .exit)) (now (u .exit)) ⌝ }
-    ensures records { λ r. ⌜ now (orig .exit) ≡ outAfter r (fileOf (formShape form.Ol) (wentsBy (linesOf (take n (now (a .entry)))) (splitLines (now (text .entry))) (now (table .entry)))) (now (orig .entry)) ⌝ }
+    ensures records { λ r. ⌜ now (orig .exit) ≡ outAfter r (fileOf (formShape form) (wentsBy (linesOf (take n (now (a .entry)))) (splitLines (now (text .entry))) (now (table .entry)))) (now (orig .entry)) ⌝ }
 {
-    let r = put_all(&a[..n], text, table, out, orig);
+    let r = put_all(form, &a[..n], text, table, out, orig);
     wipe_all(a, b, c, d, e, u);
     r
 }
@@ -219,10 +222,10 @@ pub fn work(
 ) -> limits::Answer
     requires { ⌜ Within (m .limits) (now text) × ((byteSize (m .limits) ≤ length (now a))
         × (Sized (m .limits) (now b) (now c) (now d) (now e) (now u) × (Tabled (m .limits) (now f) (now g) (now v) (now w) (now x) (now p) (now q) (now r) (now t) × (m .limits .lines ≤ length (now table))))) ⌝ }
-    ensures answer { λ r. ⌜ r ≡ roomed (length (resultOf (stepsOf (readingOf (m .mode .0)) (m .from) (m .to - m .from)) (now (text .entry)))) (length (now (out .entry))) (recordsNeed (now (text .entry))) (length (now (orig .entry))) ⌝ }
+    ensures answer { λ r. ⌜ r ≡ roomed (length (resultOf (stepsOf (readingOf (m .mode .0)) (m .from) (m .to - m .from)) (now (text .entry)))) (length (now (out .entry))) (recordsNeed (m .form) (now (text .entry))) (length (now (orig .entry))) ⌝ }
     ensures memory { λ r. ⌜ (now (out .exit) ≡ outAfter r (resultOf (stepsOf (readingOf (m .mode .0)) (m .from) (m .to - m .from)) (now (text .entry))) (now (out .entry)))
         × Blank (now (a .entry)) (now (b .entry)) (now (c .entry)) (now (d .entry)) (now (e .entry)) (now (u .entry)) (now (a .exit)) (now (b .exit)) (now (c .exit)) (now (d .exit)) (now (e .exit)) (now (u .exit)) ⌝ }
-    ensures records { λ r. ⌜ now (orig .exit) ≡ outAfter r (originsOf (stepsOf (readingOf (m .mode .0)) (m .from) (m .to - m .from)) (stepsFates (readingOf (m .mode .0)) (m .from) (m .to - m .from)) (now (text .entry))) (now (orig .entry)) ⌝ }
+    ensures records { λ r. ⌜ now (orig .exit) ≡ outAfter r (originsOf (m .form) (stepsOf (readingOf (m .mode .0)) (m .from) (m .to - m .from)) (stepsFates (readingOf (m .mode .0)) (m .from) (m .to - m .from)) (now (text .entry))) (now (orig .entry)) ⌝ }
     ensures tables { λ _. ⌜ Unused (now (f .entry)) (now (g .entry)) (now (h .entry)) (now (v .entry)) (now (w .entry)) (now (x .entry)) (now (p .entry)) (now (q .entry)) (now (r .entry)) (now (t .entry)) (now (own .entry)) (now (table .entry)) (now (f .exit)) (now (g .exit)) (now (h .exit)) (now (v .exit)) (now (w .exit)) (now (x .exit)) (now (p .exit)) (now (q .exit)) (now (r .exit)) (now (t .exit)) (now (own .exit)) (now (table .exit)) ⌝ }
 {
     let k = lines::count_lines(text);
@@ -248,7 +251,8 @@ pub fn work(
         own,
         &mut table[..k],
     );
-    let y = close(n, text, &table[..k], a, b, c, d, e, u, out, orig);
+    let form = m.form;
+    let y = close(form, n, text, &table[..k], a, b, c, d, e, u, out, orig);
     wipe_tables(f, g, h, v, w, x, p, q, r, t, own, table);
     y
 }

@@ -12,7 +12,7 @@ use lib.Seq.{drop-cons, getD-drop}
 use Rattle.lines.proofs.Tests.{or-false, and-false, is-in, is-below, is-above}
 use Rattle.names.specs.Names.{isDigit}
 use Rattle.slots.specs.Inner.Slots.{spot, claimed}
-use Rattle.slots.specs.Inner.Gather.{fourDigits, hasLong, grown, entered, enteredAll}
+use Rattle.slots.specs.Inner.Gather.{fourDigits, hasLong, grown, entered, isMark, enteredAll}
 
 -- ---- looking for four digits
 
@@ -110,25 +110,38 @@ entered-length low v own = by (ltb v low)
     by true = refl
     by false = length-set own (spot own v) v
 
-pub all-length : (low v : ℕ) (t own : List ℕ) → length (enteredAll low v t own) ≡ length own
+pub all-length : (low : ℕ) (m : Bool) (v : ℕ) (t own : List ℕ) → length (enteredAll low m v t own) ≡ length own
 unfolding enteredAll
-all-length low v [] own = entered-length low v own
-all-length low v (b ∷ t) own = by (isDigit b) (all-length low (grown v b) t own) (all-length low 0 t (entered low v own) ∙ entered-length low v own)
+all-length low m v [] own = entered-length low v own
+all-length low m v (b ∷ t) own = by (isDigit b) (all-length low m (cond m (grown v b) v) t own) (all-length low (isMark b) 0 t (entered low v own) ∙ entered-length low v own)
   where
-    by : (a : Bool) → length (enteredAll low (grown v b) t own) ≡ length own → length (enteredAll low 0 t (entered low v own)) ≡ length own
-        → length (cond a (enteredAll low (grown v b) t own) (enteredAll low 0 t (entered low v own))) ≡ length own
+    by : (a : Bool) → length (enteredAll low m (cond m (grown v b) v) t own) ≡ length own → length (enteredAll low (isMark b) 0 t (entered low v own)) ≡ length own
+        → length (cond a (enteredAll low m (cond m (grown v b) v) t own) (enteredAll low (isMark b) 0 t (entered low v own))) ≡ length own
     by true h g = h
     by false h g = g
 
-module _ (low : ℕ) (t : List ℕ) (i v : ℕ) (own : List ℕ) where
-  pub enter-digit : i < length t → isDigit (getD t i 0) ≡ true → enteredAll low v (drop i t) own ≡ enteredAll low (grown v (getD t i 0)) (drop (i + 1) t) own
+module _ (low : ℕ) (t : List ℕ) (i : ℕ) (m : Bool) (v : ℕ) (own : List ℕ) where
+  pub enter-digit : i < length t → isDigit (getD t i 0) ≡ true → enteredAll low m v (drop i t) own ≡ enteredAll low m (cond m (grown v (getD t i 0)) v) (drop (i + 1) t) own
   unfolding enteredAll
   enter-digit h e = rw (add-one i, drop-cons t i 0 h, e)
 
-  pub enter-other : i < length t → isDigit (getD t i 0) ≡ false → enteredAll low v (drop i t) own ≡ enteredAll low 0 (drop (i + 1) t) (entered low v own)
+  pub enter-marked : i < length t → isDigit (getD t i 0) ≡ true → m ≡ true → enteredAll low m v (drop i t) own ≡ enteredAll low m (grown v (getD t i 0)) (drop (i + 1) t) own
+  enter-marked h e k = enter-digit h e ∙ ap (λ (a : Bool). enteredAll low m (cond a (grown v (getD t i 0)) v) (drop (i + 1) t) own) k
+
+  pub enter-bare : i < length t → isDigit (getD t i 0) ≡ true → m ≡ false → enteredAll low m v (drop i t) own ≡ enteredAll low m v (drop (i + 1) t) own
+  enter-bare h e k = enter-digit h e ∙ ap (λ (a : Bool). enteredAll low m (cond a (grown v (getD t i 0)) v) (drop (i + 1) t) own) k
+
+  pub enter-other : i < length t → isDigit (getD t i 0) ≡ false → enteredAll low m v (drop i t) own ≡ enteredAll low (isMark (getD t i 0)) 0 (drop (i + 1) t) (entered low v own)
   unfolding enteredAll
   enter-other h e = rw (add-one i, drop-cons t i 0 h, e)
 
-  pub enter-end : length t ≤ i → enteredAll low v (drop i t) own ≡ entered low v own
+  pub enter-on : (m′ : Bool) (own′ : List ℕ) → i < length t → isDigit (getD t i 0) ≡ false → own′ ≡ entered low v own → m′ ≡ isMark (getD t i 0)
+      → enteredAll low m v (drop i t) own ≡ enteredAll low m′ 0 (drop (i + 1) t) own′
+  enter-on m′ own′ h e p q =
+      enter-other h e
+      ∙ ap (λ (o : List ℕ). enteredAll low (isMark (getD t i 0)) 0 (drop (i + 1) t) o) (sym p)
+      ∙ ap (λ (a : Bool). enteredAll low a 0 (drop (i + 1) t) own′) (sym q)
+
+  pub enter-end : length t ≤ i → enteredAll low m v (drop i t) own ≡ entered low v own
   unfolding enteredAll
   enter-end h = rw (drop-of-length-le t h)

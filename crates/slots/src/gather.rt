@@ -1,11 +1,11 @@
-// The owners of a text: its numbers of four digits and more take places, in their order.
+// The owners of a text: its numbers of registers and phis take places, in their order.
 ghost use mathlib.Core.Path.{_≡_};
-ghost use mathlib.Core.Bool.{true};
+ghost use mathlib.Core.Bool.{true, false};
 ghost use Prim.Native.Nat.{_+_, _≤_, max};
 ghost use lib.Dec.{ltb};
 ghost use lib.ListN.{length, drop};
 ghost use Rattle.names.specs.Names.{isDigit};
-ghost use Rattle.slots.specs.Inner.Gather.{fourDigits, hasLong, grown, entered, enteredAll, gathered, gatheredLen};
+ghost use Rattle.slots.specs.Inner.Gather.{fourDigits, hasLong, grown, entered, isMark, enteredAll, gathered, gatheredLen};
 
 // Numbers of more digits than this grow no more.
 const LARGE: usize = 1000000000000000000;
@@ -87,20 +87,31 @@ fn grow(v: usize, b: u8) -> usize
     v
 }
 
-// Enters the numbers of a text.
+// Whether the number behind a byte may be that of a register or of a phi.
+fn is_mark(b: u8) -> bool
+    ensures { λ r. ⌜ r ≡ isMark b ⌝ }
+{
+    (b == b'r') | (b == b'i')
+}
+
+// Enters the numbers of a text that stand behind a mark.
 fn enter_all(text: &[u8], low: usize, own: &mut [usize])
-    ensures { λ _. ⌜ now (own .exit) ≡ enteredAll low 0 (now (text .entry)) (now (own .entry)) ⌝ }
+    ensures { λ _. ⌜ now (own .exit) ≡ enteredAll low false 0 (now (text .entry)) (now (own .entry)) ⌝ }
 {
     let mut i = 0;
+    let mut marked = false;
     let mut v = 0;
     while i < text.len() {
         let b = text[i];
-        if is_digit(b) {
+        if !is_digit(b) {
+            enter(v, low, own);
+            marked = is_mark(b);
+            v = 0;
+            i += 1;
+        } else if marked {
             v = grow(v, b);
             i += 1;
         } else {
-            enter(v, low, own);
-            v = 0;
             i += 1;
         }
     }

@@ -1,5 +1,6 @@
 -- `opt::optimize` meets its contract. Assumes nothing.
 use borrow.Author.Needs.{needs}
+use Rattle.origins.specs.declared.Form.the-variants as form-is
 use Rattle.reading.specs.Reading.{readingOf}
 use Rattle.opt.proofs.EntryLaws.{result-whole, origins-whole}
 use Rattle.reading.proofs.Lined.{mode-lined}
@@ -34,7 +35,7 @@ same-length-8 : tie.Need-same-length-8
 same-length-8 c = c .before .before .before .before .before .before .before .before .before .before .before .before .before .before .before .before .tidy-small .kept .1 .1 .1 .1 .1 .1 .1 .1 .1 .1 .1 .0
 
 returns : tie.Need-returns
-returns c = let g = c .before .before .before .before .before .before .before .before .before .before .before .before .before .before .before .before .before .before .before .before .before .before .before .before .before .before .before .before .before .before .before .before .before .before .args in let y = mode-lined (g .mode) in rw (result-whole (readingOf (g .mode)) (g .text .now), origins-whole y (g .text .now)) (c .before .before .before .before .before .before .before .before .before .before .before .before .before .before .before .before .tidy-small .ensures)
+returns c = let g = c .before .before .before .before .before .before .before .before .before .before .before .before .before .before .before .before .before .before .before .before .before .before .before .before .before .before .before .before .before .before .before .before .before .before .args in let y = mode-lined (g .mode) in rw (result-whole (readingOf (g .mode)) (g .text .now), origins-whole y form-is.Ol (g .text .now)) (c .before .before .before .before .before .before .before .before .before .before .before .before .before .before .before .before .tidy-small .ensures)
 
 pub optimize-spec : {M : Type 1} → statement M
 optimize-spec =

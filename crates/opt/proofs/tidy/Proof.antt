@@ -25,10 +25,10 @@ number-of-requires : tie.Need-number-of-requires
 number-of-requires c κs = search needs
 
 returns : tie.Need-returns
-returns c = let g = c .before .before .before .before .before .before .before .before .before .before .before .before .before .before .before .before .before .before .before .before .before .before .before .before .before .args in let L = g .m .limits in let k = g .m .mode .0 in let t = g .text .now in let s = isShort L (length (g .a .now)) (length (g .b .now)) (length (g .c .now)) (length (g .d .now)) (length (g .e .now)) (length (g .u .now)) in let e = c .before .before .refused-task .ensures ∙ ap (λ (x : Bool). inMode k (checked L x t (Done 0))) (c .before .before .before .too-short .ensures) in let h = done-not _ (c .before .number-of .ensures) (c .if1 .taken) in let xs = resultOf (stepsOf (readingOf (g .m .mode .0)) (g .m .from) (g .m .to - g .m .from)) t in let r = c .before .before .refused-task .result in let p = answer-refused r L k s t xs (length (g .out .now)) (length (g .orig .now)) e h in (p .0, ((out-kept r xs (g .out .now) h, all-kept L r (g .a .now) (g .b .now) (g .c .now) (g .d .now) (g .e .now) (g .u .now) (p .1)), (out-kept r _ (g .orig .now) h, tables-kept r (g .f .now) (g .g .now) (g .h .now) (g .v .now) (g .w .now) (g .x .now) (g .p .now) (g .q .now) (g .r .now) (g .t .now) (g .own .now) (g .table .now) (p .1))))
+returns c = let g = c .before .before .before .before .before .before .before .before .before .before .before .before .before .before .before .before .before .before .before .before .before .before .before .before .before .args in let L = g .m .limits in let F = g .m .form in let k = g .m .mode .0 in let t = g .text .now in let s = isShort L (length (g .a .now)) (length (g .b .now)) (length (g .c .now)) (length (g .d .now)) (length (g .e .now)) (length (g .u .now)) in let e = c .before .before .refused-task .ensures ∙ ap (λ (x : Bool). inMode k (checked L F x t (Done 0))) (c .before .before .before .too-short .ensures) in let h = done-not _ (c .before .number-of .ensures) (c .if1 .taken) in let xs = resultOf (stepsOf (readingOf (g .m .mode .0)) (g .m .from) (g .m .to - g .m .from)) t in let r = c .before .before .refused-task .result in let p = answer-refused r L F k s t xs (length (g .out .now)) (length (g .orig .now)) e h in (p .0, ((out-kept r xs (g .out .now) h, all-kept L r (g .a .now) (g .b .now) (g .c .now) (g .d .now) (g .e .now) (g .u .now) (p .1)), (out-kept r _ (g .orig .now) h, tables-kept r (g .f .now) (g .g .now) (g .h .now) (g .v .now) (g .w .now) (g .x .now) (g .p .now) (g .q .now) (g .r .now) (g .t .now) (g .own .now) (g .table .now) (p .1))))
 
 run-requires : tie.Need-run-requires
-run-requires c κs = let g = c .before .before .before .before .before .before .before .before .before .before .before .before .before .before .before .before .before .before .before .before .before .before .before .before .before .before .before .before .before .before .before .before .before .before .before .before .before .before .before .before .before .before .before .before .before .args in let L = g .m .limits in let k = g .m .mode .0 in let t = g .text .now in let s = isShort L (length (g .a .now)) (length (g .b .now)) (length (g .c .now)) (length (g .d .now)) (length (g .e .now)) (length (g .u .now)) in let e = c .before .before .before .before .before .before .before .before .before .before .before .before .before .before .before .before .before .before .before .before .before .before .refused-task .ensures ∙ ap (λ (x : Bool). inMode k (checked L x t (Done 0))) (c .before .before .before .before .before .before .before .before .before .before .before .before .before .before .before .before .before .before .before .before .before .before .before .too-short .ensures) in let h = done-by _ (c .before .before .before .before .before .before .before .before .before .before .before .before .before .before .before .before .before .before .before .before .before .number-of .ensures) (c .before .before .before .before .before .before .before .before .before .before .before .before .before .before .before .before .before .before .before .before .if1 .left) in let p = accepted-by L s t (mode-done k (checked L s t (Done 0)) (ap isDone (sym e) ∙ h) .1) in (accepted-within (c .before .before .before .before .before .before .before .before .before .before .before .before .before .before .before .before .before .before .before .before .before .before .before .before .before .before .before .before .before .before .before .before .before .before .before .before .before .before .before .before .before .before .before .before .before .pre .0) p, (long-by L (g .a .now) (g .b .now) (g .c .now) (g .d .now) (g .e .now) (g .u .now) (p .long-enough), c .before .before .before .before .before .before .before .before .before .before .before .before .before .before .before .before .before .before .before .before .before .before .before .before .before .before .before .before .before .before .before .before .before .before .before .before .before .before .before .before .before .before .before .before .before .pre .1))
+run-requires c κs = let g = c .before .before .before .before .before .before .before .before .before .before .before .before .before .before .before .before .before .before .before .before .before .before .before .before .before .before .before .before .before .before .before .before .before .before .before .before .before .before .before .before .before .before .before .before .before .args in let L = g .m .limits in let F = g .m .form in let k = g .m .mode .0 in let t = g .text .now in let s = isShort L (length (g .a .now)) (length (g .b .now)) (length (g .c .now)) (length (g .d .now)) (length (g .e .now)) (length (g .u .now)) in let e = c .before .before .before .before .before .before .before .before .before .before .before .before .before .before .before .before .before .before .before .before .before .before .refused-task .ensures ∙ ap (λ (x : Bool). inMode k (checked L F x t (Done 0))) (c .before .before .before .before .before .before .before .before .before .before .before .before .before .before .before .before .before .before .before .before .before .before .before .too-short .ensures) in let h = done-by _ (c .before .before .before .before .before .before .before .before .before .before .before .before .before .before .before .before .before .before .before .before .before .number-of .ensures) (c .before .before .before .before .before .before .before .before .before .before .before .before .before .before .before .before .before .before .before .before .if1 .left) in let p = accepted-by L F s t (mode-done k (checked L F s t (Done 0)) (ap isDone (sym e) ∙ h) .1) in (accepted-within (c .before .before .before .before .before .before .before .before .before .before .before .before .before .before .before .before .before .before .before .before .before .before .before .before .before .before .before .before .before .before .before .before .before .before .before .before .before .before .before .before .before .before .before .before .before .pre .0) p, (long-by L (g .a .now) (g .b .now) (g .c .now) (g .d .now) (g .e .now) (g .u .now) (p .long-enough), c .before .before .before .before .before .before .before .before .before .before .before .before .before .before .before .before .before .before .before .before .before .before .before .before .before .before .before .before .before .before .before .before .before .before .before .before .before .before .before .before .before .before .before .before .before .pre .1))
 
 same-length : tie.Need-same-length
 same-length c = c .before .before .before .before .before .before .before .before .before .before .before .before .before .before .before .before .before .before .before .before .before .before .before .before .before .before .before .before .before .before .before .before .before .before .before .before .before .before .before .before .run .kept .1 .1 .0
@@ -91,7 +91,7 @@ same-length-20 : tie.Need-same-length-20
 same-length-20 c = c .before .before .before .before .before .before .before .before .before .before .before .before .before .before .before .before .before .before .before .before .before .before .before .before .before .before .before .before .before .before .before .before .before .before .before .before .before .before .before .before .run .kept .1 .1 .1 .1 .1 .1 .1 .1 .1 .1 .1 .1 .1 .1 .1 .1 .1 .1 .1 .1 .1 .0
 
 returns-2 : tie.Need-returns-2
-returns-2 c = let g = c .before .before .before .before .before .before .before .before .before .before .before .before .before .before .before .before .before .before .before .before .before .before .before .before .before .before .before .before .before .before .before .before .before .before .before .before .before .before .before .before .before .before .before .before .before .before .before .before .before .before .before .before .before .before .before .before .before .before .before .before .before .before .before .before .before .before .before .before .before .before .before .before .before .before .before .before .before .before .before .before .before .before .before .before .before .before .args in let L = g .m .limits in let k = g .m .mode .0 in let t = g .text .now in let s = isShort L (length (g .a .now)) (length (g .b .now)) (length (g .c .now)) (length (g .d .now)) (length (g .e .now)) (length (g .u .now)) in let e = c .before .before .before .before .before .before .before .before .before .before .before .before .before .before .before .before .before .before .before .before .before .before .before .before .before .before .before .before .before .before .before .before .before .before .before .before .before .before .before .before .before .before .before .before .before .before .before .before .before .before .before .before .before .before .before .before .before .before .before .before .before .before .before .refused-task .ensures ∙ ap (λ (x : Bool). inMode k (checked L x t (Done 0))) (c .before .before .before .before .before .before .before .before .before .before .before .before .before .before .before .before .before .before .before .before .before .before .before .before .before .before .before .before .before .before .before .before .before .before .before .before .before .before .before .before .before .before .before .before .before .before .before .before .before .before .before .before .before .before .before .before .before .before .before .before .before .before .before .before .too-short .ensures) in let h = done-by _ (c .before .before .before .before .before .before .before .before .before .before .before .before .before .before .before .before .before .before .before .before .before .before .before .before .before .before .before .before .before .before .before .before .before .before .before .before .before .before .before .before .before .before .before .before .before .before .before .before .before .before .before .before .before .before .before .before .before .before .before .before .before .before .number-of .ensures) (c .before .before .before .before .before .before .before .before .before .before .before .before .before .before .before .before .before .before .before .before .before .before .before .before .before .before .before .before .before .before .before .before .before .before .before .before .before .before .before .before .before .before .before .before .before .before .before .before .before .before .before .before .before .before .before .before .before .before .before .before .before .if1 .left) in let xs = resultOf (stepsOf (readingOf (g .m .mode .0)) (g .m .from) (g .m .to - g .m .from)) t in let m = mode-done k (checked L s t (Done 0)) (ap isDone (sym e) ∙ h) in let w = c .before .before .before .before .before .before .before .before .before .before .before .before .before .before .before .before .before .before .before .before .before .before .before .before .before .before .before .before .before .before .before .before .before .before .before .before .before .before .before .before .run .ensures in (answer-accepted L k s t xs (length (g .out .now)) (length (g .orig .now)) (m .0) (accepted-by L s t (m .1)) (w .0), ((w .1 .0 .0, all-wiped (length xs) (length (g .out .now)) (recordsNeed t) (length (g .orig .now)) (w .0) (w .1 .0 .1)), (w .1 .1 .0, tables-wiped (length xs) (length (g .out .now)) (recordsNeed t) (length (g .orig .now)) (w .0) (w .1 .1 .1))))
+returns-2 c = let g = c .before .before .before .before .before .before .before .before .before .before .before .before .before .before .before .before .before .before .before .before .before .before .before .before .before .before .before .before .before .before .before .before .before .before .before .before .before .before .before .before .before .before .before .before .before .before .before .before .before .before .before .before .before .before .before .before .before .before .before .before .before .before .before .before .before .before .before .before .before .before .before .before .before .before .before .before .before .before .before .before .before .before .before .before .before .before .args in let L = g .m .limits in let F = g .m .form in let k = g .m .mode .0 in let t = g .text .now in let s = isShort L (length (g .a .now)) (length (g .b .now)) (length (g .c .now)) (length (g .d .now)) (length (g .e .now)) (length (g .u .now)) in let e = c .before .before .before .before .before .before .before .before .before .before .before .before .before .before .before .before .before .before .before .before .before .before .before .before .before .before .before .before .before .before .before .before .before .before .before .before .before .before .before .before .before .before .before .before .before .before .before .before .before .before .before .before .before .before .before .before .before .before .before .before .before .before .before .refused-task .ensures ∙ ap (λ (x : Bool). inMode k (checked L F x t (Done 0))) (c .before .before .before .before .before .before .before .before .before .before .before .before .before .before .before .before .before .before .before .before .before .before .before .before .before .before .before .before .before .before .before .before .before .before .before .before .before .before .before .before .before .before .before .before .before .before .before .before .before .before .before .before .before .before .before .before .before .before .before .before .before .before .before .before .too-short .ensures) in let h = done-by _ (c .before .before .before .before .before .before .before .before .before .before .before .before .before .before .before .before .before .before .before .before .before .before .before .before .before .before .before .before .before .before .before .before .before .before .before .before .before .before .before .before .before .before .before .before .before .before .before .before .before .before .before .before .before .before .before .before .before .before .before .before .before .before .number-of .ensures) (c .before .before .before .before .before .before .before .before .before .before .before .before .before .before .before .before .before .before .before .before .before .before .before .before .before .before .before .before .before .before .before .before .before .before .before .before .before .before .before .before .before .before .before .before .before .before .before .before .before .before .before .before .before .before .before .before .before .before .before .before .before .if1 .left) in let xs = resultOf (stepsOf (readingOf (g .m .mode .0)) (g .m .from) (g .m .to - g .m .from)) t in let m = mode-done k (checked L F s t (Done 0)) (ap isDone (sym e) ∙ h) in let w = c .before .before .before .before .before .before .before .before .before .before .before .before .before .before .before .before .before .before .before .before .before .before .before .before .before .before .before .before .before .before .before .before .before .before .before .before .before .before .before .before .run .ensures in (answer-accepted L F k s t xs (length (g .out .now)) (length (g .orig .now)) (m .0) (accepted-by L F s t (m .1)) (w .0), ((w .1 .0 .0, all-wiped (length xs) (length (g .out .now)) (recordsNeed F t) (length (g .orig .now)) (w .0) (w .1 .0 .1)), (w .1 .1 .0, tables-wiped (length xs) (length (g .out .now)) (recordsNeed F t) (length (g .orig .now)) (w .0) (w .1 .1 .1))))
 
 pub tidy-spec : {M : Type 1} → statement M
 tidy-spec =

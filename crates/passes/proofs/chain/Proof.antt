@@ -20,8 +20,8 @@ split-lines-requires c κs = split-fits (c .before .before .before .before .befo
 wipe-requires : tie.Need-wipe-requires Inv-loop μ-loop
 wipe-requires c κs = search needs
 
-low-of-requires : tie.Need-low-of-requires Inv-loop μ-loop
-low-of-requires c κs = search needs
+low-in-requires : tie.Need-low-in-requires Inv-loop μ-loop
+low-in-requires c κs = search needs
 
 wipe-requires-2 : tie.Need-wipe-requires-2 Inv-loop μ-loop
 wipe-requires-2 c κs = search needs
@@ -157,7 +157,7 @@ chain-spec =
     μ-loop
     split-lines-requires
     wipe-requires
-    low-of-requires
+    low-in-requires
     wipe-requires-2
     slice-reshare-prefix-gather
     slice-aggregate-gather

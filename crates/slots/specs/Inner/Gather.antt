@@ -1,9 +1,9 @@
--- The owners of a text: its numbers of four digits and more take places, in their order. Assumes nothing.
+-- The owners of a text: its numbers of registers and phis take places, in their order. Assumes nothing.
 use Prim.Native.Nat.{ℕ, _+_, _-_, _*_}
 use Prim.Native.Char.{code}
 use mathlib.Core.Bool.{Bool, false, cond, _&&_, _||_}
 use mathlib.Core.List.{List, [], _∷_}
-use lib.Dec.{ltb}
+use lib.Dec.{eqb, ltb}
 use lib.ListN.{length, getD}
 use Rattle.names.specs.Names.{isDigit}
 use Rattle.slots.specs.Inner.Slots.{claimed}
@@ -33,14 +33,18 @@ grown v b = cond (ltb v 1000000000000000000) (v * 10 + (b - code "0")) v
 abbrev pub entered : ℕ → ℕ → List ℕ → List ℕ
 entered low v own = cond (ltb v low) own (claimed v own)
 
--- the owners after the numbers of a text that goes on after digits of the value v
-unfoldable pub enteredAll : ℕ → ℕ → List ℕ → List ℕ → List ℕ
-enteredAll low v [] own = entered low v own
-enteredAll low v (b ∷ t) own = cond (isDigit b) (enteredAll low (grown v b) t own) (enteredAll low 0 t (entered low v own))
+-- the number behind such a byte may be that of a register or of a phi
+abbrev pub isMark : ℕ → Bool
+isMark b = eqb b (code "r") || eqb b (code "i")
+
+-- the owners after the numbers behind marks of a text that goes on after digits of the value v, which stand behind a mark or not
+unfoldable pub enteredAll : ℕ → Bool → ℕ → List ℕ → List ℕ → List ℕ
+enteredAll low m v [] own = entered low v own
+enteredAll low m v (b ∷ t) own = cond (isDigit b) (enteredAll low m (cond m (grown v b) v) t own) (enteredAll low (isMark b) 0 t (entered low v own))
 
 -- the owners after a text, and how many they are: a text without a number of four digits has none
 abbrev pub gathered : ℕ → List ℕ → List ℕ → List ℕ
-gathered low t own = cond (hasLong t) (enteredAll low 0 t own) own
+gathered low t own = cond (hasLong t) (enteredAll low false 0 t own) own
 
 abbrev pub gatheredLen : List ℕ → List ℕ → ℕ
 gatheredLen t own = cond (hasLong t) (length own) 0

@@ -3,7 +3,7 @@ use borrow.Author.Needs.{needs}
 use borrow.Author.Tests.{not-true, not-false}
 use Prim.Native.Nat.{ℕ}
 use mathlib.Core.Path.{_≡_, refl, sym, ap, _∙_}
-use mathlib.Core.Bool.{Bool, cond}
+use mathlib.Core.Bool.{Bool, false, cond}
 use mathlib.Core.List.{List}
 use lib.ListN.{length}
 use Rattle.lines.proofs.Tests.{so}
@@ -22,13 +22,13 @@ enter-all-requires : tie.Need-enter-all-requires
 enter-all-requires c κs = search needs
 
 same-length : tie.Need-same-length
-same-length c = let a = c .before .before .before .before .before .before .before .before .args in ap length (c .before .before .enter-all .ensures) ∙ all-length (a .low) 0 (a .text .now) (a .own .now)
+same-length c = let a = c .before .before .before .before .before .before .before .before .args in ap length (c .before .before .enter-all .ensures) ∙ all-length (a .low) false 0 (a .text .now) (a .own .now)
 
 returns-2 : tie.Need-returns-2
 returns-2 c =
     let a = c .before .before .before .before .before .before .before .before .args in
     let e = so (c .before .before .before .before .before .has-long .ensures) (not-false _ (c .before .before .before .before .if1 .left)) in
-    (rw e (ap length (c .before .before .enter-all .ensures) ∙ all-length (a .low) 0 (a .text .now) (a .own .now)), rw e (c .before .before .enter-all .ensures))
+    (rw e (ap length (c .before .before .enter-all .ensures) ∙ all-length (a .low) false 0 (a .text .now) (a .own .now)), rw e (c .before .before .enter-all .ensures))
 
 pub gather-spec : {M : Type 1} → statement M
 gather-spec = tie.close (tie.spec has-long-requires returns enter-all-requires same-length returns-2)

@@ -1,13 +1,13 @@
--- `optlines::main` is safe and ends: how many arguments may still come falls.
+-- `asked::ask` is safe and ends: how many arguments may still come falls.
 use borrow.Author.Needs.{needs}
-use Rattle.optlines.proofs.main.Statement.{statement}
-use Rattle.optlines.proofs.main.Tie as tie
+use Rattle.tidying.proofs.asked.ask.Statement.{statement}
+use Rattle.tidying.proofs.asked.ask.Tie as tie
 
 abbrev Inv-loop : tie.InvT-loop
-Inv-loop task₀ at₀ left₀ task at left = Unit {0}
+Inv-loop program forms task₀ at₀ left₀ task at left = Unit {0}
 
 abbrev μ-loop : tie.MeasureT-loop
-μ-loop task₀ at₀ left₀ task at left = left
+μ-loop program forms task₀ at₀ left₀ task at left = left
 
 arg-count-requires : tie.Need-arg-count-requires Inv-loop μ-loop
 arg-count-requires c κs = search needs
@@ -33,8 +33,8 @@ loop-again c = search needs
 enum-known-i : tie.Need-enum-known-i Inv-loop μ-loop
 enum-known-i c = search needs
 
-take-file-requires : tie.Need-take-file-requires Inv-loop μ-loop
-take-file-requires c κs = search needs
+with-file-requires : tie.Need-with-file-requires Inv-loop μ-loop
+with-file-requires c κs = search needs
 
 returns : tie.Need-returns Inv-loop μ-loop
 returns c = search needs
@@ -45,14 +45,14 @@ enum-told c = search needs
 returns-2 : tie.Need-returns-2 Inv-loop μ-loop
 returns-2 c = search needs
 
-take-file-requires-2 : tie.Need-take-file-requires-2 Inv-loop μ-loop
-take-file-requires-2 c κs = search needs
+with-file-requires-2 : tie.Need-with-file-requires-2 Inv-loop μ-loop
+with-file-requires-2 c κs = search needs
 
 returns-3 : tie.Need-returns-3 Inv-loop μ-loop
 returns-3 c = search needs
 
-pub main-spec : {M : Type 1} → statement M
-main-spec =
+pub ask-spec : {M : Type 1} → statement M
+ask-spec =
     tie.close
     (tie.spec
     Inv-loop
@@ -65,9 +65,9 @@ main-spec =
     loop-less
     loop-again
     enum-known-i
-    take-file-requires
+    with-file-requires
     returns
     enum-told
     returns-2
-    take-file-requires-2
+    with-file-requires-2
     returns-3)

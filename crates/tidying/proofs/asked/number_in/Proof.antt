@@ -2,8 +2,8 @@
 use Prim.Native.Nat.{_-_}
 use lib.ListN.{length}
 use borrow.Author.Needs.{needs}
-use Rattle.optlines.proofs.asked.number_in.Statement.{statement}
-use Rattle.optlines.proofs.asked.number_in.Tie as tie
+use Rattle.tidying.proofs.asked.number_in.Statement.{statement}
+use Rattle.tidying.proofs.asked.number_in.Tie as tie
 
 abbrev Inv-loop : tie.InvT-loop
 Inv-loop word n₀ i₀ n i = Unit {0}

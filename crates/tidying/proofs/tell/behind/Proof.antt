@@ -1,7 +1,7 @@
 -- `tell::behind` is safe and ends: how many bytes are still to be found falls.
 use borrow.Author.Needs.{needs}
-use Rattle.optlines.proofs.tell.behind.Statement.{statement}
-use Rattle.optlines.proofs.tell.behind.Tie as tie
+use Rattle.tidying.proofs.tell.behind.Statement.{statement}
+use Rattle.tidying.proofs.tell.behind.Tie as tie
 
 abbrev Inv-loop : tie.InvT-loop
 Inv-loop text from b n at₀ left₀ at left = Unit {0}
