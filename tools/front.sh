@@ -1,4 +1,4 @@
-# shellcheck shell=sh disable=SC2154
+# shellcheck shell=sh disable=SC2154,SC3045
 # The front of the project's programs: finds a program, builds it where it is missing, runs it, and makes an exit status of what it says.
 # A script sources this file after it has set `here`, the folder that it stands in with its links followed; then it calls
 # `front NAME WORDS..`. It may set `valued`, the options that take a value and go to the program, `filed`, those of them whose value is a file
