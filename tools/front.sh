@@ -105,7 +105,7 @@ build() {
     has_rt
     pinned
     count=$(crates_of "$name")
-    note "proving and building, once: $count crates, about 10 minutes on two cores"
+    note "proving and building, once: $count crates, about 20 minutes on two cores"
     note "for a quick look, in half a minute and unproved, stop this and run: $0 --unproved .."
     { (cd "$root" && rt check "$name" </dev/null 2>&1); echo "rt: status $?"; } | progress "$count" ||
         die 'not built: target/log/ has what the prover said of each crate'
