@@ -78,7 +78,7 @@ fn say_where(program: &[u8], what: &[u8], text: &[u8], at: usize) {
 fn say_whole(program: &[u8]) {
     say_line(
         program,
-        b": ask for the listing in smaller scripts; a listing that is cut in parts may lose lines that the whole keeps\n",
+        b": optlarge takes up to 1,048,576 bytes and 100,000 lines; for more ask for smaller scripts, since a listing that is cut in parts may lose lines that the whole keeps\n",
     );
 }
 
