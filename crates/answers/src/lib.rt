@@ -1,4 +1,6 @@
 // Answers of single functions, as bytes: what the program `vectors` writes, to be held against the original's.
+#![tactic(auto)]
+
 mod dropped;
 mod formed;
 mod lexed;

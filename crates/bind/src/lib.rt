@@ -1,4 +1,6 @@
 // bind_declarators: a register that is declared and stored once leaves its declaration, and its store becomes one.
+#![tactic(auto)]
+
 mod index;
 
 ghost use Rattle.std.specs.Prelude.{◌≡◌, true, false, cond, [], ◌∷◌, ◌++◌, suc, min, ◌≤◌, ◌<◌, ◌+◌, ◌-◌, ◌^◌, eqb, length, get_or, take, drop, replicate};
@@ -27,7 +29,7 @@ ghost use Rattle.bind.specs.Inner.Sites.{stop_by, first_site, site_of, WalkedSit
 
 // A line of the text and its region: the region begins at `top` and ends at `end`, the line goes from `from` to `to` and the one below
 // begins at `next`, there are `row` lines above it, and it stands in the block `block`.
-#[derive(Drop)]
+#[derive(Clone, Copy)]
 struct Site {
     top: usize,
     from: usize,
@@ -126,7 +128,7 @@ fn count_stores(text: &[u8], reg: names::Register, n: usize) -> usize
 }
 
 // The first line that uses a register: how many lines stand above it, and where it begins.
-#[derive(Drop)]
+#[derive(Clone, Copy)]
 struct First {
     row: usize,
     place: usize,

@@ -1,4 +1,6 @@
 // rebuild_calls: the values of stores go back into the call that follows them.
+#![tactic(auto)]
+
 mod later;
 
 ghost use Rattle.std.specs.Prelude.{◌≡◌, true, not, ◌&&◌, [], ◌∷◌, ◌+◌, ◌-◌, ◌*◌, ◌≤◌, ◌<◌, ◌^◌, eqb, length, get_or, replicate};
@@ -26,7 +28,7 @@ ghost use Rattle.calls.specs.Inner.Later.{Noted, Spans};
 ghost use Rattle.calls.specs.Inner.Tables.{tabled, rows_at, Keeps, Stands, Placed, Foot, Peaked, Ready, TurnedLine, Rebuilt, owners_of};
 
 // What putting a value into a line makes: a line of so many bytes, or nothing.
-#[derive(Drop)]
+#[derive(Clone, Copy)]
 pub enum Made {
     Line(usize),
     Nothing,
@@ -289,7 +291,7 @@ fn may_go(over: bool, blocks: &[usize], starts: &[u8], k: usize, n: usize) -> bo
 }
 
 // Where a walk ends: how many bytes of the stack still stand, and how long the line is that it made.
-#[derive(Drop)]
+#[derive(Clone, Copy)]
 struct Peak {
     height: usize,
     size: usize,

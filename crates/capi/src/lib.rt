@@ -1,4 +1,6 @@
 // The entries for C and Rust: include/optlines.h declares them.
+#![tactic(auto)]
+
 ghost use Rattle.std.specs.Prelude.{◌≡◌};
 ghost use Rattle.origins.specs.declared.Form.TheVariants as form-is;
 ghost use Rattle.limits.specs.Answer.{number_of, length_of, place_of};

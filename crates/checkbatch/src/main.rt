@@ -1,4 +1,6 @@
 // Answers requests to check prunings, and tells of each whether every lent byte is as it should be.
+#![tactic(auto)]
+
 mod wire;
 
 ghost use Rattle.std.specs.Prelude.{◌≡◌, ◌≤◌, length};

@@ -1,4 +1,6 @@
 // prune_decls: declarations keep the registers that their region reads or stores.
+#![tactic(auto)]
+
 pub mod print;
 mod seen;
 
@@ -27,7 +29,7 @@ pub fn stays_in(region: &[u8], own: &[usize], m: usize, seen: &[usize], t: &[u8]
 }
 
 // The last mark of the table of registers, and where the region ends that has it.
-#[derive(Drop)]
+#[derive(Clone, Copy)]
 pub struct Region {
     pub mark: usize,
     pub end: usize,

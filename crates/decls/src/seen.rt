@@ -104,7 +104,7 @@ fn mark_line(line: &[u8], own: &[usize], m: usize, seen: &mut [usize]) -> bool
 }
 
 // Where a region ends, and a place in it from which on no line is a declaration.
-#[derive(Drop)]
+#[derive(Clone, Copy)]
 struct Reach {
     end: usize,
     quiet: usize,
@@ -155,7 +155,7 @@ fn mark_region(
 }
 
 // The last mark, where the region ends that has it, and where the next line stands that may be a header or a declaration.
-#[derive(Drop)]
+#[derive(Clone, Copy)]
 pub struct Marked {
     pub mark: usize,
     pub end: usize,

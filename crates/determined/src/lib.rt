@@ -1,1 +1,3 @@
 // What each public function's contract fixes: theorems alone.
+#![tactic(auto)]
+

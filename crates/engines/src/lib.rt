@@ -1,6 +1,8 @@
 // Two ways to find the lines that `optimize_once` drops. The plain engine: from each store the lines below are read, down to the end of its region,
 // until one reads or stores the register; then it is decided. docs/RULES.md goes through a listing with it. The sweep, from the last line up, is the one
 // that the pass itself makes.
+#![tactic(auto)]
+
 ghost use Rattle.std.specs.Prelude.{◌≡◌, ◌≤◌, ◌<◌, ◌^◌, length, take, replicate};
 ghost use Rattle.lines.specs.Inner.Out.{Wrote};
 ghost use Rattle.lines.specs.Lf.{lines_of};

@@ -1,5 +1,7 @@
 // The forms of a line and of a value: a line that a condition or a loop begins, a value that goes without parentheses, and a line
 // that writes what a value needs.
+#![tactic(auto)]
+
 ghost use Rattle.std.specs.Prelude.{◌≡◌, cond, ◌||◌, [], ◌∷◌, ◌++◌, suc, ◌+◌, ◌≤◌, ◌<◌, ◌^◌, length, drop};
 ghost use Rattle.lines.specs.Lf.{among, parts_of, prefixed};
 ghost use Rattle.lines.specs.Inner.Out.{Wrote};

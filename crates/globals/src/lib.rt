@@ -1,4 +1,6 @@
 // The removal of lines that declare globals, over LF form.
+#![tactic(auto)]
+
 ghost use Rattle.std.specs.Prelude.{◌≡◌, ◌≤◌, ◌+◌, length};
 ghost use Rattle.lines.specs.Lf.{lines_of, unlines};
 ghost use Rattle.lines.specs.Inner.Out.{Wrote};

@@ -1,18 +1,20 @@
 // Reading a text whole, or saying that it did not come whole.
+#![tactic(auto)]
+
 pub mod lent;
 pub mod wire;
 
 ghost use Rattle.std.specs.Prelude.{◌≤◌, length};
 
 // What came: a text of so many bytes, which ended or filled its room, or a text that a failed read cut off.
-#[derive(Drop)]
+#[derive(Clone, Copy)]
 pub enum Got {
     Whole(usize),
     Failed,
 }
 
 // What one read did: it brought the text to so many bytes, found the end, was interrupted before a byte came, or failed.
-#[derive(Drop)]
+#[derive(Clone, Copy)]
 enum Turn {
     Grown(usize),
     Ended,

@@ -1,4 +1,6 @@
 // Cleaning a line: comments go, and a literal leaves `S`; what is read from a cleaned line.
+#![tactic(auto)]
+
 ghost use Rattle.std.specs.Prelude.{◌≡◌, [], false, cond, not, ℕ, ◌+◌, ◌≤◌, ◌<◌, length, take, drop, get_or};
 ghost use Rattle.lines.specs.Ascii.{ascii};
 ghost use Rattle.lines.specs.Lf.{all, part, holds};
@@ -17,7 +19,7 @@ ghost use Rattle.lexical.specs.Joined.{taken, shut_in, rest_at, opens_comment, o
 ghost use Rattle.lexical.specs.Inner.Joined.{rest_in};
 
 // What becomes of a token: its one byte is kept, a literal leaves `S`, a comment goes.
-#[derive(Drop)]
+#[derive(Clone, Copy)]
 pub enum Kind {
     Kept,
     Literal,
@@ -25,7 +27,7 @@ pub enum Kind {
 }
 
 // How many bytes a token has, and what becomes of it.
-#[derive(Drop)]
+#[derive(Clone, Copy)]
 pub struct Token {
     pub size: usize,
     pub kind: Kind,
@@ -169,7 +171,7 @@ pub fn token_at(s: &[u8], i: usize, last: u16) -> Token
 
 // What decides the last character of a text as it grows: its last two bytes, 0 where there is none; and the last character that is
 // no white space, 256 where there is none, of the text, of it without its last byte, and of it without its last two.
-#[derive(Drop)]
+#[derive(Clone, Copy)]
 pub struct Tail {
     pub byte: u8,
     pub byte2: u8,
@@ -264,7 +266,7 @@ fn grow(t: Tail, kind: Kind, b: u8) -> Tail
 }
 
 // One token of a line: where the next begins, what becomes of it, and the tail of the text left after it.
-#[derive(Drop)]
+#[derive(Clone, Copy)]
 pub struct Step {
     pub next: usize,
     pub kind: Kind,
@@ -504,7 +506,7 @@ pub fn front_tail(s: &[u8], k: usize) -> Tail
 }
 
 // Where a run of plain bytes ends, and the tail once it stands after the text.
-#[derive(Drop)]
+#[derive(Clone, Copy)]
 pub struct Run {
     pub end: usize,
     pub tail: Tail,
@@ -562,7 +564,7 @@ pub fn strip_lexical(s: &[u8], out: &mut [u8], o: usize) -> usize
 
 // What of the bytes seen decides whether a value is pure: the last, whether it is an `=` that may still become `==`, and whether
 // there was a call, a member, an index or an assignment.
-#[derive(Drop)]
+#[derive(Clone, Copy)]
 pub struct Seen {
     pub prev: u8,
     pub waits: bool,
@@ -618,7 +620,7 @@ pub fn phi_rhs_pure(s: &[u8]) -> bool
 }
 
 // The place of a word, or none.
-#[derive(Drop)]
+#[derive(Clone, Copy)]
 pub enum Word {
     At(text::Span),
     None,
@@ -690,7 +692,7 @@ pub fn next_word(t: &[u8], i: usize) -> Word
 }
 
 // What a line leaves open for the next: nothing, a block comment, or a template.
-#[derive(Drop)]
+#[derive(Clone, Copy)]
 pub enum Open {
     Nothing,
     Comment,
@@ -800,7 +802,7 @@ fn open_below(s: &[u8], above: Open) -> Open
 }
 
 // Where the rest of a line begins, and what the line leaves open for the next.
-#[derive(Drop)]
+#[derive(Clone, Copy)]
 pub struct Rest {
     pub from: usize,
     pub below: Open,

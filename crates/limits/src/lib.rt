@@ -1,4 +1,6 @@
 // The limits of the entries: what they answer, the checks in their order, and the last step into the result buffer.
+#![tactic(auto)]
+
 ghost use Rattle.std.specs.Prelude.{◌≡◌, length};
 ghost use Rattle.lines.specs.Lf.{lines_of};
 ghost use Rattle.lines.specs.Steps.{joined};
@@ -8,14 +10,14 @@ ghost use Rattle.limits.specs.Entry.{small, large, byte_size, is_short, tables_s
 ghost use Rattle.limits.specs.Inner.Sane.{Sane};
 
 // How much an entry takes: the most bytes and the most lines of a text.
-#[derive(Drop)]
+#[derive(Clone, Copy)]
 pub struct Limits {
     pub bytes: usize,
     pub lines: usize,
 }
 
 // What is asked of a run: the passes from `from` up to `to`, in a mode, with records in a form, over a text within limits.
-#[derive(Drop)]
+#[derive(Clone, Copy)]
 pub struct Task {
     pub from: usize,
     pub to: usize,
@@ -79,7 +81,7 @@ pub fn byte_size(m: Limits) -> usize
 pub const OL_LINES: usize = 65535;
 
 // What an entry answers: the length of the result, or why there is none.
-#[derive(Drop)]
+#[derive(Clone, Copy)]
 pub enum Answer {
     Done(usize),
     BadPass,

@@ -1,4 +1,6 @@
 // Bytes and parts of them, LF form, writing into a lent buffer, and the first and the last step.
+#![tactic(auto)]
+
 ghost use Rattle.std.specs.Prelude.{◌≡◌, ℕ, ◌+◌, ◌/◌, ◌<◌, ◌≤◌, min, [], ◌∷◌, ◌++◌, length, take, drop, replicate, slice_index};
 ghost use Rattle.std.specs.Int.Count.{count_trailing_zeros};
 ghost use Rattle.lines.specs.Lf.{part, up_to, count_of, word, prefixed, suffixed, same, holds, ends_in, lines_of, unlines};
@@ -542,7 +544,7 @@ pub fn count_lines(text: &[u8]) -> usize
 }
 
 // The first line with more than `most` of some byte.
-#[derive(Drop)]
+#[derive(Clone, Copy)]
 pub enum Crowded {
     At(usize),
     Nowhere,

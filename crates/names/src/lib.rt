@@ -1,29 +1,31 @@
 // The names of registers, phis and temps.
+#![tactic(auto)]
+
 ghost use Rattle.std.specs.Prelude.{◌≡◌, [], ◌∷◌, ◌++◌, ◌≤◌, length};
 ghost use Rattle.lines.specs.Lf.{same};
 ghost use Rattle.names.specs.Names.{all_digits, read_number, decimal, reg_by, reg_of, phi_of, is_temp, reg_text, phi_text, reg_is, is_ident};
 ghost use Rattle.names.specs.Inner.Names.{zeros, number_after};
 
 // A register, a phi: numbers of their own, so that a table of one cannot be asked with another.
-#[derive(Drop)]
+#[derive(Clone, Copy)]
 pub struct Register(pub u64);
 
-#[derive(Drop)]
+#[derive(Clone, Copy)]
 pub struct Phi(pub u64);
 
-#[derive(Drop)]
+#[derive(Clone, Copy)]
 pub enum Number {
     Of(u64),
     None,
 }
 
-#[derive(Drop)]
+#[derive(Clone, Copy)]
 pub enum RegName {
     Reg(Register),
     None,
 }
 
-#[derive(Drop)]
+#[derive(Clone, Copy)]
 pub enum PhiName {
     Phi(Phi),
     None,

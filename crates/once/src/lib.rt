@@ -1,4 +1,6 @@
 // `optimize_once`: dead stores and scratch loads go, and a value that is read once on the next line goes there.
+#![tactic(auto)]
+
 pub mod below;
 mod noted;
 

@@ -1,4 +1,6 @@
 // The entries: all passes over a text, or one of them, in lent buffers.
+#![tactic(auto)]
+
 ghost use Rattle.std.specs.Prelude.{◌≡◌, ◌≤◌, ◌-◌, length, ◌||◌};
 ghost use Rattle.lines.specs.Lf.{within};
 ghost use Rattle.origins.specs.declared.Form.TheVariants as form-is;

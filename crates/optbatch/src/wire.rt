@@ -2,7 +2,7 @@
 use input::wire::{byte_at, four, read_bytes};
 
 // A request: the pass, the mode, which work buffer is short, the rooms for the result and for the records, and how much of the text there is.
-#[derive(Drop)]
+#[derive(Clone, Copy)]
 pub struct Request {
     pub pass: u8,
     pub mode: u8,
@@ -13,7 +13,7 @@ pub struct Request {
 }
 
 // A request that was read, or the end of the input.
-#[derive(Drop)]
+#[derive(Clone, Copy)]
 pub enum Asked {
     Whole(Request),
     Ended,

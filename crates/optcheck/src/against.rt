@@ -124,7 +124,7 @@ fn line_above(text: &[u8], at: usize) -> usize {
 }
 
 // A place in the raw text, or none.
-#[derive(Drop)]
+#[derive(Clone, Copy)]
 pub enum Found {
     At(usize),
     Nowhere,

@@ -62,7 +62,7 @@ fn times_declared(line: &[u8], reg: Register) -> usize {
 }
 
 // A register that is left out, or none.
-#[derive(Drop)]
+#[derive(Clone, Copy)]
 pub enum Missing {
     Reg(Register),
     None,

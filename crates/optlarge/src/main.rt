@@ -1,5 +1,7 @@
 // Tidies a larger listing: `optlarge [--strict] [--joined] [--pass N] [--origins RECORDS] [--form OL|OM] [--] [FILE]`, as optlines does a smaller one. Its buffers take some
 // 30 MB of the stack: tools/front.sh raises its limit. A listing that is small enough goes the way of optlines, unless its records are asked for in the form `OM`.
+#![tactic(auto)]
+
 use limits::Answer;
 use origins::Form;
 use tidying::asked;

@@ -1,14 +1,14 @@
 // The arguments of the program.
 
 // What is asked: plain text or a page, and the mode of a number.
-#[derive(Drop)]
+#[derive(Clone, Copy)]
 pub struct Task {
     pub text: bool,
     pub mode: usize,
 }
 
 // What is asked, and the place of the first argument that is no option.
-#[derive(Drop)]
+#[derive(Clone, Copy)]
 pub struct Asked {
     pub task: Task,
     pub rest: usize,
@@ -26,7 +26,7 @@ fn mode_of(strict: bool, joined: bool) -> usize {
 }
 
 // What an argument is: an option, `--`, or a file's name.
-#[derive(Drop)]
+#[derive(Clone, Copy)]
 enum Word {
     Text,
     Strict,

@@ -4,7 +4,7 @@
 const ENOUGH: usize = 1000000000000000000;
 
 // What a word is as a number.
-#[derive(Drop)]
+#[derive(Clone, Copy)]
 pub enum Number {
     Is(usize),
     Missing,

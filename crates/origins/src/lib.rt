@@ -1,4 +1,6 @@
 // Where each line goes: tables of moves and of codes, and the records that say so, as bytes in either form.
+#![tactic(auto)]
+
 ghost use Rattle.std.specs.Prelude.{◌≡◌, cond, [], ◌∷◌, ◌≤◌, ◌<◌, ◌+◌, ◌-◌, min, eqb, ltb, length, get_or, set, take, drop, replicate};
 ghost use Rattle.lines.specs.Lf.{part, up_to, prefixed, same, lines_of, low_bytes};
 ghost use Rattle.lines.specs.Steps.{split_lines};
@@ -9,7 +11,7 @@ ghost use Rattle.origins.specs.Inner.Codes.{half, far_move, note_of, taken_code,
 ghost use Rattle.origins.specs.Inner.Written.{said_first, first_is, first_end, wents_by, bare_by};
 
 // What a record says of a line: it is kept with equal bytes as an output line, kept with other bytes, its value is inside one, or it is away.
-#[derive(Drop)]
+#[derive(Clone, Copy)]
 pub enum Went {
     Equal(usize),
     Changed(usize),
@@ -18,7 +20,7 @@ pub enum Went {
 }
 
 // The forms of a record: a line has 2 bytes, or 4.
-#[derive(Drop)]
+#[derive(Clone, Copy)]
 pub enum Form {
     Ol,
     Om,
@@ -359,7 +361,7 @@ fn first_is(line: &[u8], s: &[u8]) -> bool
 }
 
 // What is said of a line, and where the next line that came out begins.
-#[derive(Drop)]
+#[derive(Clone, Copy)]
 struct Told {
     went: Went,
     next: usize,

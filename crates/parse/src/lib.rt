@@ -1,4 +1,6 @@
 // Reading a line.
+#![tactic(auto)]
+
 ghost use Rattle.std.specs.Prelude.{◌≡◌, ◌<◌, ◌≤◌, ◌+◌, ◌-◌, ◌^◌, true, cond, not, ◌&&◌, eqb, length, take, drop, get_or};
 ghost use Rattle.lines.specs.Lf.{part, up_to, parts_of};
 ghost use Rattle.text.specs.Trim.{from_of, trim_of};
@@ -8,14 +10,14 @@ ghost use Rattle.parse.specs.Parse.{all_regs, is_decl, store_in, split_store, pa
 ghost use Rattle.parse.specs.Inner.Parse.{digits_len, short_reg, NameTo, plain_byte, plain_value};
 
 // A store: its register, and the place of its value in the line.
-#[derive(Drop)]
+#[derive(Clone, Copy)]
 pub struct Store {
     pub reg: names::Register,
     pub from: usize,
     pub to: usize,
 }
 
-#[derive(Drop)]
+#[derive(Clone, Copy)]
 pub enum Line {
     Decl,
     Store(Store),

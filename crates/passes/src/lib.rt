@@ -1,4 +1,6 @@
 // The passes one after the other, over work buffers of the stated sizes.
+#![tactic(auto)]
+
 ghost use Rattle.std.specs.Prelude.{◌≡◌, ◌≤◌, ◌<◌, ◌-◌, ◌*◌, ◌^◌, length, take};
 ghost use Rattle.lines.specs.Lf.{ends_in, lines_of, unlines};
 ghost use Rattle.lines.specs.Steps.{split_lines, joined};

@@ -1,4 +1,6 @@
 // prune_dead_phis: stores of phis that nothing reads go, and their names leave the declarations.
+#![tactic(auto)]
+
 mod table;
 
 ghost use Rattle.std.specs.Prelude.{◌≡◌, true, false, ◌&&◌, ◌||◌, [], ◌∷◌, ◌++◌, ◌≤◌, ◌+◌, max, length, drop, replicate};
@@ -362,7 +364,7 @@ fn put_line(
 }
 
 // Where what a round wrote ends, and whether it found a dead phi.
-#[derive(Drop)]
+#[derive(Clone, Copy)]
 struct Round {
     end: usize,
     dead: bool,

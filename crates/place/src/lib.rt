@@ -1,4 +1,6 @@
 // Regions, blocks, block paths, loops: four notions of place, each with its own rule for braces.
+#![tactic(auto)]
+
 ghost use Rattle.std.specs.Prelude.{◌≡◌, true, cond, ◌||◌, [], ◌∷◌, ◌++◌, ◌≤◌, ◌<◌, ◌+◌, ◌-◌, ◌^◌, take, drop, set, length, replicate};
 ghost use Rattle.lines.specs.Lf.{prefixed, lines_of, ends_in};
 ghost use Rattle.lexical.specs.Lex.{last_of, leaves, strip_lexical};
@@ -20,7 +22,7 @@ ghost use Rattle.place.specs.Inner.Fill.{Filled, flags_of};
 
 // The number of a region: of its own type, so that no other number is taken for one.
 #[repr(C)]
-#[derive(Drop)]
+#[derive(Clone, Copy)]
 pub struct Region(pub usize);
 
 // Whether a line opens a region: most lines begin with a space, and none of these does.
@@ -116,7 +118,7 @@ pub fn flag(b: bool) -> u8
 }
 
 // The open block, and how many blocks are known.
-#[derive(Drop)]
+#[derive(Clone, Copy)]
 struct Open {
     block: u32,
     next: usize,
@@ -191,7 +193,7 @@ fn left(kind: lexical::Kind, b: u8, c: u32, up: &mut [u32], n: usize) -> Open
 }
 
 // Below a line: the open block, how many blocks are known, and the line's last character once it is cleaned, or 256 where it is blank.
-#[derive(Drop)]
+#[derive(Clone, Copy)]
 pub struct At {
     pub block: u32,
     pub next: usize,
@@ -398,7 +400,7 @@ pub fn opens_loop(t: &[u8]) -> bool
 }
 
 // The open blocks as far as `inside_loop` asks: how many, and how many there were when the outermost loop's was opened, or 0 where none is a loop's.
-#[derive(Drop)]
+#[derive(Clone, Copy)]
 struct Nest {
     depth: usize,
     outer: usize,
@@ -535,7 +537,7 @@ fn loop_by(seen: bool, line: &[u8]) -> bool
 }
 
 // Of a line, the innermost block of its path; and below it, the open block, how many blocks are known, and whether a loop's block was opened.
-#[derive(Drop)]
+#[derive(Clone, Copy)]
 struct Passed {
     top: u32,
     block: u32,
@@ -570,7 +572,7 @@ fn path_line(line: &[u8], c: u32, up: &mut [u32], n: usize, seen: bool) -> Passe
 }
 
 // How many lines there are, and whether some line opens a loop's block.
-#[derive(Drop)]
+#[derive(Clone, Copy)]
 pub struct Pathed {
     pub rows: usize,
     pub loops: bool,
@@ -605,7 +607,7 @@ pub fn block_paths(text: &[u8], table: &mut [usize], up: &mut [u32], ends: &mut 
 }
 
 // Whether some line opens a loop's block, and how many stand above the first that does.
-#[derive(Drop)]
+#[derive(Clone, Copy)]
 struct Ahead {
     found: bool,
     rows: usize,

@@ -1,4 +1,6 @@
 // The entries of crate po for C: include/optpo.h declares them.
+#![tactic(auto)]
+
 ghost use Rattle.std.specs.Prelude.{◌≡◌, length, replicate};
 ghost use Rattle.po.specs.Reader.{read_of};
 ghost use Rattle.po.specs.Answers.{po_text, po_answer, po_number, po_after, index_after, read_text, read_answer, strings_number, read_after};

@@ -1,4 +1,6 @@
 // Reads record files: checks them, answers which lines are behind an output line, and turns them into the other form.
+#![tactic(auto)]
+
 ghost use Rattle.std.specs.Prelude.{◌≡◌, cond, ◌≤◌, ◌<◌, ◌+◌, ◌*◌, eqb, length, get_or, set, take, drop, replicate};
 ghost use Rattle.lines.specs.Lf.{word};
 ghost use Rattle.lines.specs.Inner.Out.{Wrote};
@@ -11,7 +13,7 @@ ghost use Rattle.reader.specs.Chains.{firsts_from, next_in, first_in, nexts_from
 ghost use Rattle.reader.specs.Inner.Walk.{one_in};
 
 // What is answered: how much there is, or why there is nothing, with the record, or the room that is needed.
-#[derive(Drop)]
+#[derive(Clone, Copy)]
 pub enum Reply {
     Fine(usize),
     Cut(usize),

@@ -1,4 +1,6 @@
 // What a line reads and stores, and the two sides of an assignment.
+#![tactic(auto)]
+
 ghost use Rattle.std.specs.Prelude.{◌≡◌, ◌<◌, ◌+◌, ◌%◌, length};
 ghost use Rattle.lines.specs.Lf.{part, lines_of};
 ghost use Rattle.parse.specs.Inner.Parse.{plain_byte};
@@ -7,7 +9,7 @@ ghost use Rattle.reading.specs.Uses.{line_reads, stores_by, line_stores, line_us
 ghost use Rattle.reading.specs.Inner.Assign.{plain_sides, sides_of, assign_of};
 
 // How values and lines are read: 0 plain, 1 strict, 2 joined, 3 both.
-#[derive(Drop)]
+#[derive(Clone, Copy)]
 pub struct Mode(pub usize);
 
 // Whether a mode is strict.
@@ -25,20 +27,20 @@ pub fn is_joined(mode: Mode) -> bool
 }
 
 // What a line does with a register: how often it reads it, and whether it stores it.
-#[derive(Drop)]
+#[derive(Clone, Copy)]
 pub struct Use {
     pub reads: usize,
     pub stores: bool,
 }
 
 // The trimmed sides of an assignment, as places of its text.
-#[derive(Drop)]
+#[derive(Clone, Copy)]
 pub struct Sides {
     pub left: text::Span,
     pub right: text::Span,
 }
 
-#[derive(Drop)]
+#[derive(Clone, Copy)]
 pub enum Assign {
     Split(Sides),
     None,

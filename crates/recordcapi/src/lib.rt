@@ -1,4 +1,6 @@
 // Record files for C, Rust and Python: include/optrecords.h declares these functions. The form of a file is told by its first mark.
+#![tactic(auto)]
+
 ghost use Rattle.std.specs.Prelude.{◌≡◌};
 ghost use Rattle.origins.specs.declared.Form.TheVariants.{Ol, Om};
 ghost use Rattle.origins.specs.Form.{fate_byte, out_line};

@@ -1,10 +1,12 @@
 // Line records: for each line of a text where it begins and ends, its region and its block, a window of them at a time in one lent slice.
+#![tactic(auto)]
+
 ghost use Rattle.std.specs.Prelude.{◌≡◌, cond, ◌+◌, ◌≤◌, ◌<◌, ◌^◌, min, ltb, length, get_or, set, replicate};
 ghost use Rattle.records.specs.Inner.Records.{no_rec, last_record, start_below, region_below, rec_by, Above, window_at};
 
 // A line of a text: where it begins and ends, its region and its block. Its parts stand in this order in memory.
 #[repr(C)]
-#[derive(Drop)]
+#[derive(Clone, Copy)]
 pub struct LineRec {
     pub start: usize,
     pub end: usize,

@@ -1,4 +1,6 @@
 // Where a table over the numbers of registers or phis holds the entry of each: a low number at its own place, another where the table of owners says so.
+#![tactic(auto)]
+
 pub mod gather;
 
 ghost use Rattle.std.specs.Prelude.{◌≡◌, ◌-◌, min, length, replicate};

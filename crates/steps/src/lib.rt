@@ -1,4 +1,6 @@
 // The passes by number: the work buffers and tables are split among the tables and the scratch that each asks for.
+#![tactic(auto)]
+
 ghost use Rattle.std.specs.Prelude.{◌≡◌, ◌≤◌, ◌<◌, ◌^◌, length, take, replicate};
 ghost use Rattle.lines.specs.Lf.{lines_of, unlines};
 ghost use Rattle.lines.specs.Inner.Out.{Wrote};

@@ -1,4 +1,6 @@
 // prune_dead_temps, over LF form.
+#![tactic(auto)]
+
 mod table;
 
 ghost use Rattle.std.specs.Prelude.{◌≡◌, ℕ, ◌+◌, ◌≤◌, true, not, ◌&&◌, ◌||◌, List, length, replicate, ◌==◌, nat_lt};

@@ -11,7 +11,7 @@ ghost use Rattle.temps.specs.Inner.Table.{key_by, key_of, flag_at, flag_pieces, 
 use crate::is_binding;
 
 // What a table says of a key: whether its flag is set, or that it has no place there.
-#[derive(Drop)]
+#[derive(Clone, Copy)]
 pub enum Flag {
     Is(bool),
     Past,

@@ -1,4 +1,6 @@
 // Byte classes, white space, UTF-8 and trimming.
+#![tactic(auto)]
+
 ghost use Rattle.std.specs.Prelude.{◌≡◌, [], ◌∷◌, true, cond, ◌&&◌, ◌≤◌, ◌<◌, ◌+◌, ◌-◌, get_or, take, drop, length, leb};
 ghost use Rattle.text.specs.Trim.{white_char, white_head, white_tail, from_of, end_white, to_of, to_end, trim_of};
 ghost use Rattle.lines.specs.Lf.{within, all, part};
@@ -83,7 +85,7 @@ pub fn is_white(c: u32) -> bool
 }
 
 // What a text is: UTF-8 by RFC 3629, or the place of the first byte of its first bad sequence.
-#[derive(Drop)]
+#[derive(Clone, Copy)]
 pub enum Utf8 {
     Valid,
     Bad(usize),
@@ -449,7 +451,7 @@ pub fn trim(s: &[u8]) -> &[u8]
     &s[a..e]
 }
 
-#[derive(Drop)]
+#[derive(Clone, Copy)]
 pub struct Span {
     pub from: usize,
     pub to: usize,

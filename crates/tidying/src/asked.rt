@@ -9,7 +9,7 @@ pub const OM: u8 = 2;
 
 // What is asked: all passes or `one`, which has the number `pass`, in strict mode or not, in joined mode or not, with records in a form, and the place of the argument that
 // names the file for the records; 0 where there is none.
-#[derive(Drop)]
+#[derive(Clone, Copy)]
 pub struct Task {
     pub one: bool,
     pub pass: usize,
@@ -31,7 +31,7 @@ pub fn mode_of(task: Task) -> usize {
 }
 
 // What an argument is: an option that a program has, `--`, an option that it has not, or a file's name.
-#[derive(Drop)]
+#[derive(Clone, Copy)]
 enum Word {
     Strict,
     Joined,
@@ -75,7 +75,7 @@ fn past(at: usize) -> usize {
 }
 
 // What a word is as a number.
-#[derive(Drop)]
+#[derive(Clone, Copy)]
 enum Number {
     Is(usize),
     Missing,
@@ -129,7 +129,7 @@ fn is_option(at: usize) -> bool {
 }
 
 // What comes of an argument: an option is taken and the next one follows, a file's name or none stands from a place on, or it is wrong, which is said.
-#[derive(Drop)]
+#[derive(Clone, Copy)]
 enum Taken {
     Option(Next),
     Rest(usize),
@@ -137,7 +137,7 @@ enum Taken {
 }
 
 // What is asked so far, and the place of the next argument.
-#[derive(Drop)]
+#[derive(Clone, Copy)]
 pub struct Next {
     pub task: Task,
     pub at: usize,
@@ -222,7 +222,7 @@ fn take(program: &[u8], forms: bool, task: Task, at: usize) -> Taken {
 }
 
 // What the arguments ask for, with the place of the file's name, or that one of them is wrong, which is said.
-#[derive(Drop)]
+#[derive(Clone, Copy)]
 pub enum Asked {
     For(Next),
     Wrong,

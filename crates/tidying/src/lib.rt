@@ -1,4 +1,6 @@
 // What the programs that tidy a listing share: the first pair of entries over buffers of its own, and the way of a listing in and of what came of it out.
+#![tactic(auto)]
+
 pub mod asked;
 pub mod tell;
 
@@ -139,13 +141,13 @@ pub fn records_size(form: origins::Form, n: usize) -> usize {
 }
 
 // Where a listing is read: from a descriptor, with a name of so many bytes, or nowhere, which is said.
-#[derive(Drop)]
+#[derive(Clone, Copy)]
 pub enum Source {
     From(Named),
     Nowhere,
 }
 
-#[derive(Drop)]
+#[derive(Clone, Copy)]
 pub struct Named {
     pub fd: i32,
     pub size: usize,

@@ -1,4 +1,6 @@
 // Where the raw lines go by one pass after another: one table of moves over the raw lines, which each pass takes on by the moves of its own lines.
+#![tactic(auto)]
+
 ghost use Rattle.std.specs.Prelude.{◌≡◌};
 ghost use Rattle.trails.specs.Inner.Trails.{sent_by, thinned};
 

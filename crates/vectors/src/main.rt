@@ -1,5 +1,7 @@
 // Answers requests for single functions as the original does; or, where it is given a file of requests that are each followed by the
 // original's answer, replays it and says how many agree.
+#![tactic(auto)]
+
 mod replay;
 mod reply;
 mod wire;

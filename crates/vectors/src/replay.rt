@@ -6,7 +6,7 @@ use libc::STDOUT_FILENO;
 
 // How many requests were answered, how many of these answers agreed, how many requests have none, whether there may be more requests,
 // and whether the file ended within one.
-#[derive(Drop)]
+#[derive(Clone, Copy)]
 pub struct Tally {
     pub asked: u64,
     pub agreed: u64,

@@ -3,7 +3,7 @@ use crate::wire;
 use crate::wire::{Asked, Request};
 
 // A function and the length of its answer; the end of the input where a request could begin; its end within one.
-#[derive(Drop)]
+#[derive(Clone, Copy)]
 pub enum Turn {
     Answer(u8, usize),
     Ended,

@@ -2,7 +2,7 @@
 use input::wire::{four, read_bytes};
 
 // A request: the function, its number, and how long its two texts are.
-#[derive(Drop)]
+#[derive(Clone, Copy)]
 pub struct Request {
     pub function: u8,
     pub number: u64,
@@ -11,7 +11,7 @@ pub struct Request {
 }
 
 // A request that was read; the end of the input where one could begin; its end within one.
-#[derive(Drop)]
+#[derive(Clone, Copy)]
 pub enum Asked {
     Whole(Request),
     Ended,
@@ -19,7 +19,7 @@ pub enum Asked {
 }
 
 // A text that was read and its length, though it stands in the buffer only if it fits; the end of the input within it.
-#[derive(Drop)]
+#[derive(Clone, Copy)]
 pub enum Text {
     Whole(usize),
     Cut,

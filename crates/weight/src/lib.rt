@@ -1,1 +1,3 @@
 // The weight of a text, which no pass raises: theorems alone.
+#![tactic(auto)]
+

@@ -1,4 +1,6 @@
 // Words: runs of name bytes, what a text reads, and searching by text.
+#![tactic(auto)]
+
 ghost use Rattle.std.specs.Prelude.{◌≡◌, false, cond, not, ◌&&◌, ◌||◌, List, [], ◌∷◌, ℕ, ◌+◌, ◌-◌, ◌≤◌, ◌<◌, eqb, length, drop, get_or};
 ghost use Rattle.lines.specs.Lf.{same, suffixed};
 ghost use Rattle.lines.specs.Inner.Out.{Wrote};
@@ -8,7 +10,7 @@ ghost use Rattle.words.specs.Inner.Runs.{gap_len, run_len, reg_gap, after_name, 
 ghost use Rattle.words.specs.Hits.{reg_hit, after_new, as_target, glue_left, glue_right, glued, replaced_at};
 
 // The one place of a search, or not exactly one.
-#[derive(Drop)]
+#[derive(Clone, Copy)]
 pub enum Hit {
     One(text::Span),
     Not,
