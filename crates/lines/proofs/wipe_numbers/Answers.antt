@@ -1,0 +1,28 @@
+use Rattle.std.proofs.Common.{◌≡◌, ℕ, ◌-◌, length, arith}
+use lib.ListN.{length-replicate}
+use Rattle.lines.proofs.OutLaws.{wrote-length, wrote-whole, wipe-start, wipe_on, wipe-end}
+use Rattle.lines.proofs.wipe_numbers.Goals as goal
+
+pub loop-i-init : goal.loop-i-init
+loop-i-init c = (omega arith, wipe-start _)
+
+pub block_end-e-requires : goal.block_end-e-requires
+block_end-e-requires c = omega (arith, c.loop-i-test.true)
+
+pub overflow_sub-e : goal.overflow_sub-e
+overflow_sub-e c = omega (arith, c.block_end-e.ensures.0.0)
+
+pub wipe_numbers_block-requires : goal.wipe_numbers_block-requires
+wipe_numbers_block-requires c = omega (arith, c.block_end-e.ensures.0, wrote-length c.loop-i.invariant.1, wrote-length c.loop-i.invariant.1)
+
+pub loop-i-smaller : goal.loop-i-smaller
+loop-i-smaller c = omega (arith, c.loop-i-test.true, wrote-length c.loop-i.invariant.1, c.block_end-e.ensures.0, c.block_end-e.ensures.1 c.loop-i-test.true (omega arith))
+
+pub loop-i-preserved : goal.loop-i-preserved
+loop-i-preserved c = let l = c.loop-i in let k = c.block_end-e in (omega (arith, k.ensures.0.1, wrote-length c.loop-i.invariant.1), wipe_on l.i k.result k.ensures.0.0 l.invariant.1 c.wipe_numbers_block.ensures)
+
+pub shape_of-numbers : goal.shape_of-numbers
+shape_of-numbers c = wrote-length c.loop-i.invariant.1
+
+pub returns : goal.returns
+returns c = let l = c.loop-i in let n = length c.args.numbers.now in let q : l.i ≡ n = omega (arith, c.loop-i-test.false, l.invariant.0, wrote-length l.invariant.1) in wrote-whole (wipe-end q l.invariant.1) (length-replicate {A = ℕ} n 0)
