@@ -1,0 +1,7 @@
+use mathlib.Core.Path.{refl}
+use native.Mathlib.Omega.{arith}
+use Rattle.answers.proofs.Bounds.{lines-count, rows-room, blocks-room}
+use Rattle.answers.proofs.dropped.sweep_drops.Goals as goal
+
+pub sweep_drops-requires : goal.sweep_drops-requires
+sweep_drops-requires c = let a = c.args.a.now in let n = c.count_lines-n.ensures in let k = rows-room 4096 a (omega (arith, n, c.if-n-gt-ROWS.false)) in (k, (omega (arith, lines-count a, n, c.if-out-n.false), (k, (blocks-room 4096 a (omega (arith, c.count_byte.ensures, c.if-count_byte-gt-ROWS.false)), (omega arith, (omega (arith, c.if-scratch-a.false), (refl, refl)))))))

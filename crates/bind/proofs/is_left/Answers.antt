@@ -1,0 +1,12 @@
+use mathlib.Core.Bool.{not}
+use mathlib.Core.Path.{sym, ap, ◌∙◌}
+use Rattle.bind.specs.Inner.Steps.{bound_at, fails}
+use Rattle.bind.proofs.is_left.Goals as goal
+
+pub returns-in-Reg : goal.returns-in-Reg
+returns-in-Reg c = let a = c.args in
+    ap not c.told.ensures ∙ sym (ap (fails (bound_at a.text.now a.s a.blocks.now a.starts.now)) (sym c.reg_name.ensures ∙ c.q-1.given.1))
+
+pub returns-in-None : goal.returns-in-None
+returns-in-None c = let a = c.args in
+    sym (ap (fails (bound_at a.text.now a.s a.blocks.now a.starts.now)) (sym c.reg_name.ensures ∙ c.enum_told-1.given.1))

@@ -1,0 +1,11 @@
+use Prim.Native.Nat.{◌≤◌, ◌-◌}
+use lib.ListN.{length, drop}
+use Rattle.lines.proofs.OutLaws.{Writing}
+use Rattle.expr.specs.Comments.{strip, strip_comments}
+use Rattle.expr.proofs.strip_each.Given as goal
+
+abbrev pub invariant-loop-i : goal.invariant-loop-i
+invariant-loop-i l = (l.i ≤ length l.s) × Writing l.o (strip_comments l.s) (strip (drop l.i l.s) l.inside) l.initial.out l.out l.n
+
+abbrev pub decreases-loop-i : goal.decreases-loop-i
+decreases-loop-i l = length l.s - l.i

@@ -1,0 +1,100 @@
+use mathlib.Core.Path.{◌≡◌, sym, ◌∙◌}
+use mathlib.Core.Bool.{false}
+use mathlib.Core.List.{◌∷◌}
+use Prim.Native.Nat.{◌+◌, ◌-◌}
+use native.Mathlib.Omega.{arith}
+use lib.ListN.{drop, get_or}
+use Rattle.lines.proofs.OutLaws.{writing_start, writing-as, writing-length, writing-end}
+use Rattle.expr.specs.Quotes.{cut_go, strip_quoted}
+use Rattle.expr.proofs.CommentLaws.{two_fits, byte-room, byte_put}
+use Rattle.expr.proofs.QuoteLaws.{at-close, at-skip, at_open, at-line, at_copy, at-end, quote-to, literal-room, literal-put}
+use Rattle.expr.proofs.strip_quoted.Goals as goal
+
+closed : (c : tie.Then2 invariant-loop decreases-loop) → cut_go (drop c.loop-i.i c.args.s.now) 0 c.loop-i.inside ≡ 32 ∷ cut_go (drop (c.loop-i.i + 2) c.args.s.now) 0 false
+closed c = at-close c.args.s.now c.loop-i.i c.if-inside.true (sym c.two_at.ensures ∙ c.if-two_at.true)
+
+copied : (c : tie.Else5 invariant-loop decreases-loop) → cut_go (drop c.loop-i.i c.args.s.now) 0 c.loop-i.inside ≡ get_or c.args.s.now c.loop-i.i 0 ∷ cut_go (drop (c.loop-i.i + 1) c.args.s.now) 0 c.loop-i.inside
+copied c = at_copy c.args.s.now c.loop-i.i (omega arith) c.if-inside.false (sym c.is_quote.ensures ∙ c.if-is_quote.false) (sym c.two_at-else-is_quote.ensures ∙ c.if-two_at-2.false) (sym c.two_at-else-two_at-2.ensures ∙ c.if-two_at-3.false)
+
+pub loop-i-init : goal.loop-i-init
+unfolding strip_quoted
+loop-i-init c = (omega arith, writing_start _ _ _ c.requires)
+
+pub two_at-requires : goal.two_at-requires
+two_at-requires c = tt
+
+-- a comment is closed here
+
+pub bounds-out-n : goal.bounds-out-n
+bounds-out-n c = byte-room c.loop-i.invariant.1 (closed c)
+
+pub overflow_add-n : goal.overflow_add-n
+overflow_add-n c = omega (arith, byte-room c.loop-i.invariant.1 (closed c))
+
+pub overflow_add-i : goal.overflow_add-i
+overflow_add-i c = omega (arith, two_fits _ _ c.args.s.now c.loop-i.i (sym c.two_at.ensures ∙ c.if-two_at.true))
+
+pub loop-i-preserved-then-two_at : goal.loop-i-preserved-then-two_at
+loop-i-preserved-then-two_at c = (two_fits _ _ c.args.s.now c.loop-i.i (sym c.two_at.ensures ∙ c.if-two_at.true), byte_put c.loop-i.invariant.1 (closed c))
+
+pub loop-i-preserved-else-two_at : goal.loop-i-preserved-else-two_at
+loop-i-preserved-else-two_at c = (omega arith, writing-as (at-skip c.args.s.now c.loop-i.i (omega arith) c.if-inside.true (sym c.two_at.ensures ∙ c.if-two_at.false)) c.loop-i.invariant.1)
+
+pub is_quote-requires : goal.is_quote-requires
+is_quote-requires c = tt
+
+pub quote_end-e-requires : goal.quote_end-e-requires
+quote_end-e-requires c = tt
+
+pub slice_bounds-put-count : goal.slice_bounds-put-count
+slice_bounds-put-count c = omega (arith, c.quote_end-e.ensures)
+
+pub slice_bounds-put-start : goal.slice_bounds-put-start
+slice_bounds-put-start c = omega (arith, c.quote_end-e.ensures)
+
+pub slice_bounds-put-end : goal.slice_bounds-put-end
+slice_bounds-put-end c = omega (arith, (quote-to c.args.s.now c.loop-i.i c.loop-i-test.true c.quote_end-e.result c.quote_end-e.ensures).1)
+
+pub put-n-requires : goal.put-n-requires
+put-n-requires c = literal-room c.args.s.now c.loop-i.i c.loop-i.inside c.loop-i.invariant.1 c.loop-i-test.true c.if-inside.false (sym c.is_quote.ensures ∙ c.if-is_quote.true) c.quote_end-e.result c.quote_end-e.ensures
+
+pub loop-i-smaller-then-is_quote : goal.loop-i-smaller-then-is_quote
+loop-i-smaller-then-is_quote c = let k = quote-to c.args.s.now c.loop-i.i c.loop-i-test.true c.quote_end-e.result c.quote_end-e.ensures in omega (arith, k.0, k.1)
+
+pub loop-i-preserved-then-is_quote : goal.loop-i-preserved-then-is_quote
+loop-i-preserved-then-is_quote c = ((quote-to c.args.s.now c.loop-i.i c.loop-i-test.true c.quote_end-e.result c.quote_end-e.ensures).1, literal-put c.args.s.now c.loop-i.i c.loop-i.inside c.loop-i.invariant.1 c.loop-i-test.true c.if-inside.false (sym c.is_quote.ensures ∙ c.if-is_quote.true) c.quote_end-e.result c.quote_end-e.ensures c.put-n.ensures)
+
+pub two_at-requires-else-is_quote : goal.two_at-requires-else-is_quote
+two_at-requires-else-is_quote c = tt
+
+pub overflow_add-i-then-two_at-2 : goal.overflow_add-i-then-two_at-2
+overflow_add-i-then-two_at-2 c = omega (arith, two_fits _ _ c.args.s.now c.loop-i.i (sym c.two_at-else-is_quote.ensures ∙ c.if-two_at-2.true))
+
+pub loop-i-preserved-then-two_at-2 : goal.loop-i-preserved-then-two_at-2
+loop-i-preserved-then-two_at-2 c = let t = sym c.two_at-else-is_quote.ensures ∙ c.if-two_at-2.true in (two_fits _ _ c.args.s.now c.loop-i.i t, writing-as (at_open c.args.s.now c.loop-i.i c.if-inside.false (sym c.is_quote.ensures ∙ c.if-is_quote.false) t) c.loop-i.invariant.1)
+
+pub two_at-requires-else-two_at-2 : goal.two_at-requires-else-two_at-2
+two_at-requires-else-two_at-2 c = tt
+
+pub shape_of-out-then-two_at-3 : goal.shape_of-out-then-two_at-3
+shape_of-out-then-two_at-3 c = writing-length c.loop-i.invariant.1
+
+pub returns-then-two_at-3 : goal.returns-then-two_at-3
+returns-then-two_at-3 c = writing-end (writing-as (at-line c.args.s.now c.loop-i.i c.if-inside.false (sym c.is_quote.ensures ∙ c.if-is_quote.false) (sym c.two_at-else-is_quote.ensures ∙ c.if-two_at-2.false) (sym c.two_at-else-two_at-2.ensures ∙ c.if-two_at-3.true)) c.loop-i.invariant.1)
+
+-- no literal and no comment begins here, and the byte is copied
+
+pub bounds-out-n-else-two_at-3 : goal.bounds-out-n-else-two_at-3
+bounds-out-n-else-two_at-3 c = byte-room c.loop-i.invariant.1 (copied c)
+
+pub overflow_add-n-else-two_at-3 : goal.overflow_add-n-else-two_at-3
+overflow_add-n-else-two_at-3 c = omega (arith, byte-room c.loop-i.invariant.1 (copied c))
+
+pub loop-i-preserved : goal.loop-i-preserved
+loop-i-preserved c = (omega arith, byte_put c.loop-i.invariant.1 (copied c))
+
+pub shape_of-out : goal.shape_of-out
+shape_of-out c = writing-length c.loop-i.invariant.1
+
+pub returns : goal.returns
+returns c = writing-end (writing-as (at-end _ _ _ c.loop-i-test.false) c.loop-i.invariant.1)

@@ -1,0 +1,11 @@
+use Prim.Native.Nat.{◌+◌, ◌-◌, ◌≤◌}
+use mathlib.Core.Path.{◌≡◌}
+use Rattle.lexical.specs.Inner.Plain.{plain_len}
+use Rattle.lexical.proofs.EndLaws.{ends}
+use Rattle.lexical.proofs.plain_to.Given as goal
+
+abbrev pub invariant-loop-j : goal.invariant-loop-j
+invariant-loop-j l = (ends plain_len l.s l.j ≡ plain_len l.s) × (l.j ≤ l.m + 7)
+
+abbrev pub decreases-loop-j : goal.decreases-loop-j
+decreases-loop-j l = l.m - l.j

@@ -1,0 +1,18 @@
+use mathlib.Core.Path.{sym, ap, ◌∙◌}
+use native.Mathlib.Omega.{arith}
+use Rattle.limits.specs.declared.Answer.TheVariants.{Done}
+use Rattle.limits.specs.Entry.{is_wide}
+use Rattle.limits.proofs.AnswerLaws.{lines-many, lines-wide, lines-few}
+use Rattle.limits.proofs.refused_lines.Goals as goal
+
+pub returns-then-n-m : goal.returns-then-n-m
+returns-then-n-m c = lines-many c.args.m c.args.form c.args.text.now (Done 0) (omega (arith, c.if-n-m.true, c.count_lines-n.ensures))
+
+pub returns-then-is_wide : goal.returns-then-is_wide
+returns-then-is_wide c = lines-wide c.args.m c.args.form c.args.text.now (Done 0) (omega (arith, c.if-n-m.false, c.count_lines-n.ensures)) (sym (ap (is_wide c.args.form) c.count_lines-n.ensures) ∙ sym c.is_IsWide.ensures ∙ c.if-is_wide.true)
+
+pub returns-in-At : goal.returns-in-At
+returns-in-At c = lines-few c.args.m c.args.form c.args.text.now (Done 0) (omega (arith, c.if-n-m.false, c.count_lines-n.ensures)) (sym (ap (is_wide c.args.form) c.count_lines-n.ensures) ∙ sym c.is_IsWide.ensures ∙ c.if-is_wide.false) (sym c.crowded_line.ensures ∙ c.n-1.given.1)
+
+pub returns-in-Nowhere : goal.returns-in-Nowhere
+returns-in-Nowhere c = lines-few c.args.m c.args.form c.args.text.now (Done 0) (omega (arith, c.if-n-m.false, c.count_lines-n.ensures)) (sym (ap (is_wide c.args.form) c.count_lines-n.ensures) ∙ sym c.is_IsWide.ensures ∙ c.if-is_wide.false) (sym c.crowded_line.ensures ∙ c.enum_told-1.given.1)

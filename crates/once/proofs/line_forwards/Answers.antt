@@ -1,0 +1,37 @@
+use Rattle.parse.specs.Parse.{text_of}
+use Prim.Native.Nat.{ℕ}
+use mathlib.Core.List.{List}
+use mathlib.Core.Path.{refl, sym, ap, ◌∙◌}
+use native.Mathlib.Omega.{arith}
+use lib.ListN.{length}
+use Rattle.reading.specs.Reading.{reading_of}
+use Rattle.lines.specs.Lf.{lines_of}
+use Rattle.place.specs.Region.{region}
+use Rattle.once.specs.Inner.Tables.{forwards_by, store_forwards}
+use Rattle.once.proofs.Zeros.{zeroed-less}
+use Rattle.once.proofs.Decides.{forwards-at, value_room}
+use Rattle.once.proofs.line_forwards.Goals as goal
+
+pub store_forwards-requires : goal.store_forwards-requires
+store_forwards-requires c =
+    let a = c.args in
+    let s = c.p-1.given.0.0 in
+    (zeroed-less (let h = value_room s.from s.to a.line.now in let q = ap length c.value_of-x.ensures in omega arith) c.requires.1.0, (c.requires.1.1.0 s (sym c.requires.0 ∙ c.p-1.given.1), c.requires.1.1.1 s (sym c.requires.0 ∙ c.p-1.given.1)))
+
+pub returns-in-Decl : goal.returns-in-Decl
+returns-in-Decl c =
+    let a = c.args in
+    record { answer = ap (forwards_by (reading_of a.mode.0) a.line.now (region (lines_of a.run.now)) a.in-loop a.gone a.next.now (lines_of a.below.now)) (sym c.enum_told-1.given.1) ∙ forwards-at (reading_of a.mode.0) a.line.now (region (lines_of a.run.now)) a.in-loop a.gone a.next.now (lines_of a.below.now) _ c.requires.0; memory = refl }
+
+pub returns-in-Store : goal.returns-in-Store
+unfolding text_of
+returns-in-Store c =
+    let a = c.args in
+    let e = c.store_forwards.ensures in
+    let s = c.p-1.given in
+    record { answer = e.0 ∙ ap (λ (x : List ℕ). store_forwards (reading_of a.mode.0) s.0.0.reg.0 x (region (lines_of a.run.now)) a.in-loop a.gone a.next.now (lines_of a.below.now)) c.value_of-x.ensures ∙ ap (forwards_by (reading_of a.mode.0) a.line.now (region (lines_of a.run.now)) a.in-loop a.gone a.next.now (lines_of a.below.now)) (sym s.1) ∙ forwards-at (reading_of a.mode.0) a.line.now (region (lines_of a.run.now)) a.in-loop a.gone a.next.now (lines_of a.below.now) _ c.requires.0; memory = e.1 }
+
+pub returns-in-Other : goal.returns-in-Other
+returns-in-Other c =
+    let a = c.args in
+    record { answer = ap (forwards_by (reading_of a.mode.0) a.line.now (region (lines_of a.run.now)) a.in-loop a.gone a.next.now (lines_of a.below.now)) (sym c.enum_told-in-Other-1.given.1) ∙ forwards-at (reading_of a.mode.0) a.line.now (region (lines_of a.run.now)) a.in-loop a.gone a.next.now (lines_of a.below.now) _ c.requires.0; memory = refl }

@@ -1,0 +1,8 @@
+use Rattle.origins.proofs.Puts.{gone-as}
+use Rattle.origins.proofs.gone_of.Goals as goal
+
+pub returns-in-Ol : goal.returns-in-Ol
+returns-in-Ol c = gone-as c.args.f c.enum_told-1.given.1
+
+pub returns-in-Om : goal.returns-in-Om
+returns-in-Om c = gone-as c.args.f c.enum_told-in-Om-1.given.1

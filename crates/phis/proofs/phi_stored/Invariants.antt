@@ -1,0 +1,14 @@
+use Prim.Native.Nat.{ℕ, ◌-◌, ◌≤◌}
+use mathlib.Core.Path.{◌≡◌}
+use mathlib.Core.List.{List}
+use lib.ListN.{length, drop}
+use Rattle.lines.specs.Lf.{lines_of}
+use Rattle.phis.specs.Phis.{phi_stored}
+use Rattle.phis.proofs.Searches.{any_one, stores_it}
+use Rattle.phis.proofs.phi_stored.Given as goal
+
+abbrev pub invariant-loop-i : goal.invariant-loop-i
+invariant-loop-i l = (l.i ≤ length l.text) × (any_one (λ (l : List ℕ). stores_it l.phi.0 l) (lines_of (drop l.i l.text)) ≡ phi_stored l.phi.0 (lines_of l.text))
+
+abbrev pub decreases-loop-i : goal.decreases-loop-i
+decreases-loop-i l = length l.text - l.i

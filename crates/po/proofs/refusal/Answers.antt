@@ -1,0 +1,22 @@
+use mathlib.Core.Path.{sym, ◌∙◌}
+use Rattle.po.specs.declared.Po.TheVariants as po
+use Rattle.po.proofs.AnswerLaws.{name-empty, name-bad, text-bad, text-good}
+use Rattle.po.proofs.refusal.Goals as goal
+
+pub returns-then-name-eq0 : goal.returns-then-name-eq0
+returns-then-name-eq0 c = let a = c.args in let f = c.file_name-n in name-empty a.name.now a.t.now (po.Done 0) f.result f.ensures c.if-name-eq0.true
+
+pub returns-then-n-name : goal.returns-then-n-name
+returns-then-n-name c = let a = c.args in let f = c.file_name-n in name-bad a.name.now a.t.now (po.Done 0) f.result f.ensures c.if-n-name.true
+
+pub returns-in-Bad : goal.returns-in-Bad
+returns-in-Bad c = let a = c.args in let f = c.file_name-n in text-bad a.name.now a.t.now (po.Done 0) f.result f.ensures c.if-name-eq0.false c.if-n-name.false _ (sym c.check_utf8.ensures ∙ c.i-1.given.1)
+
+pub returns-in-None : goal.returns-in-None
+returns-in-None c = let a = c.args in let f = c.file_name-n in text-good a.name.now a.t.now (po.Done 0) f.result f.ensures c.if-name-eq0.false c.if-n-name.false _ (sym c.check_utf8.ensures ∙ c.enum_told-1.given.1) (sym c.first_flaw.ensures ∙ c.enum_told-in-None-1.given.1)
+
+pub returns-in-Escape : goal.returns-in-Escape
+returns-in-Escape c = let a = c.args in let f = c.file_name-n in text-good a.name.now a.t.now (po.Done 0) f.result f.ensures c.if-name-eq0.false c.if-n-name.false _ (sym c.check_utf8.ensures ∙ c.enum_told-1.given.1) (sym c.first_flaw.ensures ∙ c.i-in-Escape-1.given.1)
+
+pub returns-in-Unclosed : goal.returns-in-Unclosed
+returns-in-Unclosed c = let a = c.args in let f = c.file_name-n in text-good a.name.now a.t.now (po.Done 0) f.result f.ensures c.if-name-eq0.false c.if-n-name.false _ (sym c.check_utf8.ensures ∙ c.enum_told-1.given.1) (sym c.first_flaw.ensures ∙ c.i-in-Unclosed-1.given.1)

@@ -1,0 +1,20 @@
+use Rattle.std.proofs.Common.{◌-◌, refl, arith}
+use Rattle.text.specs.Trim.{trim_of}
+use Rattle.temps.specs.Inner.Table.{flag_decls}
+use Rattle.temps.proofs.TableLaws.{flag-start, decls-on, decls-done}
+use Rattle.temps.proofs.table.flag_decls.Goals as goal
+
+pub loop-i-init : goal.loop-i-init
+loop-i-init c = flag-start (flag_decls c.args.own.now) _ _
+
+pub loop-i-smaller : goal.loop-i-smaller
+loop-i-smaller c = omega (arith, c.after-i.ensures, c.find_byte-e.ensures, c.loop-i-test.true)
+
+pub loop-i-preserved : goal.loop-i-preserved
+loop-i-preserved c = decls-on _ c.loop-i.invariant c.find_byte-e.result c.after-i.result c.cut.result.now (trim_of c.cut.result.now) _ c.loop-i-test.true c.find_byte-e.ensures c.cut.ensures refl c.flag_line.ensures c.after-i.ensures
+
+pub shape_of-table : goal.shape_of-table
+shape_of-table c = c.loop-i.invariant.long
+
+pub returns : goal.returns
+returns c = decls-done _ c.loop-i.invariant c.loop-i-test.false

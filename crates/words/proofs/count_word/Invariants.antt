@@ -1,0 +1,12 @@
+use Prim.Native.Nat.{ℕ, ◌-◌}
+use mathlib.Core.List.{List}
+use lib.ListN.{length}
+use Rattle.lines.specs.Lf.{same}
+use Rattle.words.proofs.RunLaws.{CountInv}
+use Rattle.words.proofs.count_word.Given as goal
+
+abbrev pub invariant-loop-i : goal.invariant-loop-i
+invariant-loop-i l = CountInv (λ (r : List ℕ). same r l.p) l.s l.n l.i
+
+abbrev pub decreases-loop-i : goal.decreases-loop-i
+decreases-loop-i l = length l.s - l.i
