@@ -1,7 +1,6 @@
 use Prim.Native.Nat.{◌-◌}
 use mathlib.Core.Path.{◌≡◌, ap, ◌∙◌}
 use native.Mathlib.Omega.{arith}
-use borrow.Author.Tests.{not-true, not-false}
 use Prim.Native.Nat.{ℕ, ◌+◌}
 use lib.ListN.{drop}
 use Rattle.lexical.specs.Idents.{char_len}
@@ -41,13 +40,13 @@ pub is_no_word-requires : goal.is_no_word-requires
 is_no_word-requires c = tt
 
 pub returns-then-not-is_no_word : goal.returns-then-not-is_no_word
-returns-then-not-is_no_word c = let l = c.loop-j in let t = c.args.t.now in let e = l.j + c.char_len.result in let h = c.loop-j-test.true in let q : e ≡ l.j + char_len (drop l.j t) = ap (λ (n : ℕ). l.j + n) c.char_len.ensures in word-here l.invariant e h q (so c.joins_word.ensures c.if-joins_word.false) (so c.is_no_word.ensures (not-true _ c.if-not-is_no_word.true))
+returns-then-not-is_no_word c = let l = c.loop-j in let t = c.args.t.now in let e = l.j + c.char_len.result in let h = c.loop-j-test.true in let q : e ≡ l.j + char_len (drop l.j t) = ap (λ (n : ℕ). l.j + n) c.char_len.ensures in word-here l.invariant e h q (so c.joins_word.ensures c.if-joins_word.false) (so c.is_no_word.ensures c.if-not-is_no_word.true)
 
 pub loop-j-smaller : goal.loop-j-smaller
 loop-j-smaller c = let l = c.loop-j in let t = c.args.t.now in let e = l.j + c.char_len.result in let h = c.loop-j-test.true in let q : e ≡ l.j + char_len (drop l.j t) = ap (λ (n : ℕ). l.j + n) c.char_len.ensures in omega (arith, char-on t l.j e h q)
 
 pub loop-j-preserved : goal.loop-j-preserved
-loop-j-preserved c = let l = c.loop-j in let t = c.args.t.now in let e = l.j + c.char_len.result in let h = c.loop-j-test.true in let q : e ≡ l.j + char_len (drop l.j t) = ap (λ (n : ℕ). l.j + n) c.char_len.ensures in word-skip l.invariant e h q (so c.joins_word.ensures c.if-joins_word.false) (so c.is_no_word.ensures (not-false _ c.if-not-is_no_word.false))
+loop-j-preserved c = let l = c.loop-j in let t = c.args.t.now in let e = l.j + c.char_len.result in let h = c.loop-j-test.true in let q : e ≡ l.j + char_len (drop l.j t) = ap (λ (n : ℕ). l.j + n) c.char_len.ensures in word-skip l.invariant e h q (so c.joins_word.ensures c.if-joins_word.false) (so c.is_no_word.ensures c.if-not-is_no_word.false)
 
 pub cut-requires : goal.cut-requires
 cut-requires c = tt
@@ -56,7 +55,7 @@ pub is_no_word-requires-2 : goal.is_no_word-requires-2
 is_no_word-requires-2 c = tt
 
 pub returns-then-not-is_no_word-2 : goal.returns-then-not-is_no_word-2
-returns-then-not-is_no_word-2 c = word-last c.loop-j.invariant c.loop-j-test.false (so (c.is_no_word-2.ensures ∙ ap no_word c.cut.ensures) (not-true _ c.if-not-is_no_word-2.true))
+returns-then-not-is_no_word-2 c = word-last c.loop-j.invariant c.loop-j-test.false (so (c.is_no_word-2.ensures ∙ ap no_word c.cut.ensures) c.if-not-is_no_word-2.true)
 
 pub returns : goal.returns
-returns c = word_none c.loop-j.invariant c.loop-j-test.false (so (c.is_no_word-2.ensures ∙ ap no_word c.cut.ensures) (not-false _ c.if-not-is_no_word-2.false))
+returns c = word_none c.loop-j.invariant c.loop-j-test.false (so (c.is_no_word-2.ensures ∙ ap no_word c.cut.ensures) c.if-not-is_no_word-2.false)

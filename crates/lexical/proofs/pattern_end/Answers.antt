@@ -12,19 +12,19 @@ pub loop-j-smaller-in-92 : goal.loop-j-smaller-in-92
 loop-j-smaller-in-92 c = omega (arith, c.after-j.ensures)
 
 pub loop-j-preserved-in-92 : goal.loop-j-preserved-in-92
-loop-j-preserved-in-92 c = let a = c.args in let l = c.loop-j in sym (pattern-after l.inside a.s.now l.j _ c.after-j.ensures c.loop-j-test.true c.in-92.keys1) ∙ l.invariant
+loop-j-preserved-in-92 c = let a = c.args in let l = c.loop-j in sym (pattern-after l.inside a.s.now l.j _ c.after-j.ensures c.loop-j-test.true c.in-92.is) ∙ l.invariant
 
 pub loop-j-preserved-in-91 : goal.loop-j-preserved-in-91
-loop-j-preserved-in-91 c = let a = c.args in let l = c.loop-j in sym (pattern-open l.inside a.s.now l.j c.loop-j-test.true c.in-92.keys2) ∙ l.invariant
+loop-j-preserved-in-91 c = let a = c.args in let l = c.loop-j in sym (pattern-open l.inside a.s.now l.j c.loop-j-test.true c.in-91.is) ∙ l.invariant
 
 pub loop-j-preserved-in-93 : goal.loop-j-preserved-in-93
-loop-j-preserved-in-93 c = let a = c.args in let l = c.loop-j in sym (pattern-shut l.inside a.s.now l.j c.loop-j-test.true c.in-92.keys3) ∙ l.invariant
+loop-j-preserved-in-93 c = let a = c.args in let l = c.loop-j in sym (pattern-shut l.inside a.s.now l.j c.loop-j-test.true c.in-93.is) ∙ l.invariant
 
 pub loop-j-preserved-then-inside : goal.loop-j-preserved-then-inside
-loop-j-preserved-then-inside c = let a = c.args in let l = c.loop-j in sym (pattern-inside l.inside a.s.now l.j c.loop-j-test.true c.in-92.keys4 c.if-inside.true) ∙ l.invariant
+loop-j-preserved-then-inside c = let a = c.args in let l = c.loop-j in sym (pattern-inside l.inside a.s.now l.j c.loop-j-test.true c.in-47.is c.if-inside.true) ∙ l.invariant
 
 pub returns-else-inside : goal.returns-else-inside
-returns-else-inside c = let a = c.args in let l = c.loop-j in sym (pattern-close l.inside a.s.now l.j c.loop-j-test.true c.in-92.keys4 c.if-inside.false) ∙ l.invariant
+returns-else-inside c = let a = c.args in let l = c.loop-j in sym (pattern-close l.inside a.s.now l.j c.loop-j-test.true c.in-47.is c.if-inside.false) ∙ l.invariant
 
 pub loop-j-preserved : goal.loop-j-preserved
 loop-j-preserved c = let a = c.args in let l = c.loop-j in sym (pattern-more l.inside a.s.now l.j c.loop-j-test.true (omega arith) (omega arith) (omega arith) (omega arith)) ∙ l.invariant

@@ -1,6 +1,5 @@
 use Prim.Native.Nat.{◌-◌}
 use mathlib.Core.Path.{sym, ◌∙◌}
-use borrow.Author.Tests.{not-true, not-false}
 use Rattle.lines.proofs.Tests.{so}
 use Rattle.lexical.proofs.PlainLaws.{plain_more, plain-stop, plain-none}
 use Rattle.lexical.proofs.plain_one.Goals as goal
@@ -9,10 +8,10 @@ pub is_plain-requires : goal.is_plain-requires
 is_plain-requires c = tt
 
 pub returns-then-not-is_plain : goal.returns-then-not-is_plain
-returns-then-not-is_plain c = let l = c.loop-j in sym (plain-stop c.args.s.now l.j c.loop-j-test.true (so c.is_plain.ensures (not-true _ c.if-not-is_plain.true))) ∙ l.invariant
+returns-then-not-is_plain c = let l = c.loop-j in sym (plain-stop c.args.s.now l.j c.loop-j-test.true (so c.is_plain.ensures c.if-not-is_plain.true)) ∙ l.invariant
 
 pub loop-j-preserved : goal.loop-j-preserved
-loop-j-preserved c = let l = c.loop-j in sym (plain_more c.args.s.now l.j c.loop-j-test.true (so c.is_plain.ensures (not-false _ c.if-not-is_plain.false))) ∙ l.invariant
+loop-j-preserved c = let l = c.loop-j in sym (plain_more c.args.s.now l.j c.loop-j-test.true (so c.is_plain.ensures c.if-not-is_plain.false)) ∙ l.invariant
 
 pub returns : goal.returns
 returns c = let l = c.loop-j in sym (plain-none c.args.s.now l.j c.loop-j-test.false) ∙ l.invariant

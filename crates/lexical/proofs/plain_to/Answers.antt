@@ -1,7 +1,6 @@
 use Prim.Native.Nat.{◌+◌, ◌-◌}
 use mathlib.Core.Path.{◌≡◌, sym, ap, ◌∙◌}
 use native.Mathlib.Omega.{arith}
-use borrow.Author.Tests.{not-false}
 use lib.ListN.{length}
 use Rattle.lexical.specs.Inner.Plain.{plain_len}
 use Rattle.lexical.proofs.EndLaws.{ends}
@@ -20,7 +19,7 @@ returns-then-not-tame_eight c = c.plain_one-then-not-tame_eight.ensures ∙ c.lo
 pub loop-j-preserved : goal.loop-j-preserved
 loop-j-preserved c =
     let l = c.loop-j in
-    (tame-on c.args.s.now l.j (omega arith) (sym c.tame_eight.ensures ∙ not-false _ c.if-not-tame_eight.false) ∙ l.invariant.0, omega arith)
+    (tame-on c.args.s.now l.j (omega arith) (sym c.tame_eight.ensures ∙ c.if-not-tame_eight.false) ∙ l.invariant.0, omega arith)
 
 pub returns-then-tame_eight : goal.returns-then-tame_eight
 returns-then-tame_eight c =

@@ -4,12 +4,12 @@ use Rattle.lexical.proofs.taken_by.Goals as goal
 
 pub returns-in-Nothing : goal.returns-in-Nothing
 unfolding taken
-returns-in-Nothing c = rw c.enum_told-1.given.1
+returns-in-Nothing c = rw c.in-Nothing.is
 
 pub returns-in-Comment : goal.returns-in-Comment
 unfolding taken
-returns-in-Comment c = rw c.enum_told-in-Comment-1.given.1 (omega (arith, c.comment_end.ensures))
+returns-in-Comment c = rw c.in-Comment.is (omega (arith, c.comment_end.ensures))
 
 pub returns-in-Template : goal.returns-in-Template
 unfolding taken
-returns-in-Template c = rw c.enum_told-in-Template-1.given.1 (omega (arith, c.quote_end.ensures))
+returns-in-Template c = rw c.in-Template.is (omega (arith, c.quote_end.ensures))
