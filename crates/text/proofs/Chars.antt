@@ -1,9 +1,9 @@
 -- Of a text that is a row of well-formed sequences, trimming takes away the white characters at its ends, and no other bytes.
 -- Assumes nothing.
-use mathlib.Core.Path.{◌≡◌, refl, sym, ap, ◌∙◌, subst}
-use mathlib.Core.Bool.{Bool, true, false, cond, ◌&&◌, ◌||◌, false≢true, true≢false}
+use mathlib.Core.Path.{◌≡◌, refl, sym, ap, ◌∙◌}
+use mathlib.Core.Bool.{Bool, true, false, cond, ◌&&◌, ◌||◌, false≢true}
 use mathlib.Core.List.{List, [], ◌∷◌, ◌++◌}
-use Prim.Native.Nat.{ℕ, zero, suc, ◌+◌, ◌-◌, ◌*◌, ◌%◌, ◌≤◌, ◌<◌}
+use Prim.Native.Nat.{ℕ, suc, ◌+◌, ◌≤◌, ◌<◌}
 use native.Mathlib.Omega.{arith}
 use borrow.Author.Tests.{leb-true, leb-false, ltb-true, ltb-false, ne_eqb}
 use lib.Dec.{T, leb, ltb, leb→le, ltb→lt}
@@ -13,9 +13,9 @@ use Rattle.lines.specs.Lf.{within, all}
 use Rattle.text.specs.White.{is_white}
 use Rattle.text.specs.Utf8Form.{seq_len, seq_by, begins, grammar}
 use Rattle.text.specs.Trim.{white_char, white_head, point, lead, or_on, from_of, trim_start}
-use Rattle.lines.proofs.Tests.{is-in, is-out, is-above, is_below, T-left, T-right, and-false}
+use Rattle.lines.proofs.Tests.{is-in, is-above, is_below, T-left, T-right, and-false}
 use Rattle.text.proofs.Rows.{seq_len-le, rows-le, lead_f0, lead_high}
-use Rattle.text.proofs.Whites.{white-yes, white-no}
+use Rattle.text.proofs.Whites.{white-no}
 use Rattle.text.proofs.Trims.{lead-skip}
 
 -- ---- the grammar's first bytes are in order and are no tails; the other bytes are tails

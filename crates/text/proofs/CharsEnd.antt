@@ -1,21 +1,21 @@
 -- The same at the back.
 -- Assumes nothing.
-use mathlib.Core.Path.{◌≡◌, refl, sym, ap, ◌∙◌, subst}
+use mathlib.Core.Path.{◌≡◌, refl, sym, ap, ◌∙◌}
 use mathlib.Core.Bool.{Bool, true, false, cond, ◌&&◌, false≢true}
 use mathlib.Core.List.{List, [], ◌∷◌, ◌++◌}
 use Prim.Native.Nat.{ℕ, zero, suc, ◌+◌, ◌-◌, ◌≤◌, ◌<◌}
 use native.Mathlib.Omega.{arith}
-use borrow.Author.Tests.{leb-true, leb-false, le-leb, eqb-true}
+use borrow.Author.Tests.{leb-true, le-leb, eqb-true}
 use lib.Dec.{T, leb, eqb, leb→le}
-use lib.ListN.{length, take, drop, get_or, length-append}
+use lib.ListN.{length, take, get_or, length-append}
 use lib.Seq.{take-append-le, take_all, get_or-append-add}
-use Rattle.lines.specs.Lf.{within, all}
+use Rattle.lines.specs.Lf.{all}
 use Rattle.text.specs.White.{is_white}
 use Rattle.text.specs.Utf8Form.{seq_len, begins}
 use Rattle.text.specs.Trim.{white_char, white_tail, point, or_on, end_white, to_of, trim_end}
 use Rattle.lines.proofs.Tests.{T-left, T-right}
 use Rattle.text.proofs.Rows.{seq_len-le}
-use Rattle.text.proofs.Whites.{tail_at, pick3}
+use Rattle.text.proofs.Whites.{tail_at}
 use Rattle.text.proofs.Trims.{back-stop, back_on, to_of-le}
 use Rattle.text.proofs.Chars.{Formed, formed, tail_ok, four, Chars, none, char, stripped}
 

@@ -3,18 +3,17 @@
 use mathlib.Core.Path.{◌≡◌, refl, sym, ap, ◌∙◌}
 use mathlib.Core.Bool.{Bool, true, false, cond, ◌&&◌, false≢true}
 use mathlib.Core.List.{List, [], ◌∷◌, ◌++◌, reverse, reverse-cons, append_assoc, append-nil}
-use Prim.Native.Nat.{ℕ, zero, suc, ◌+◌, ◌-◌, ◌≤◌, ◌<◌}
+use Prim.Native.Nat.{ℕ, zero, suc, ◌+◌, ◌≤◌, ◌<◌}
 use native.Mathlib.Omega.{arith}
 use lib.ListN.{length, take, drop, length-drop, take-append-drop}
 use lib.Seq.{length-take-le, drop-append_seam}
 use Rattle.lines.specs.Lf.{within}
-use Rattle.text.specs.Utf8Form.{seq_len, seq_by, begins, grammar, scan, utf8_of}
-use Rattle.text.specs.declared.Utf8.{Utf8}
-use Rattle.text.specs.declared.Utf8.TheVariants.{Valid, Bad}
-use Rattle.text.specs.Trim.{white_char, from_of, to_of, trim_start, trim_end, trim_of}
+use Rattle.text.specs.Utf8Form.{seq_len, begins, grammar, scan, utf8_of}
+use Rattle.text.specs.declared.Utf8.TheVariants.{Valid}
+use Rattle.text.specs.Trim.{white_char, trim_end, trim_of}
 use Rattle.text.proofs.Rows.{seq_len-fits}
 use Rattle.text.proofs.Scan.{first-bad, first_on}
-use Rattle.text.proofs.Chars.{Led, bad, good, led, Formed, formed, formed-append, Chars, none, char, text, stripped, trim-chars}
+use Rattle.text.proofs.Chars.{Led, bad, good, led, formed, formed-append, Chars, none, char, text, stripped, trim-chars}
 use Rattle.text.proofs.CharsEnd.{backtext, trim-chars-end}
 
 -- ---- a row of characters is valid

@@ -1,12 +1,12 @@
 -- The table of byte classes: its rule at all 256 entries, by tests that antt computes.
 use mathlib.Core.Path.{◌≡◌, refl, sym, ap, ◌∙◌}
 use mathlib.Core.List.{List, [], ◌∷◌}
-use mathlib.Core.Bool.{Bool, true, false, cond, not}
+use mathlib.Core.Bool.{Bool, true, false, not}
 use Prim.Native.Nat.{ℕ, ◌≤◌, ◌<◌}
 use native.Mathlib.Omega.{arith}
 use borrow.Author.Tests.{ne_eqb, leb-true, leb-false}
 use lib.Dec.{T, eqb, leb, eqb→eq}
-use lib.ListN.{get_or, length}
+use lib.ListN.{get_or}
 use Rattle.lines.proofs.Tests.{is-in, is-above, is-out}
 use Rattle.text.specs.Class.{is_name, is_quote, opens_pattern}
 use Rattle.text.specs.Inner.Class.{class_of}

@@ -1,9 +1,9 @@
 -- What the first byte alone leaves of the grammar: the one alternative that can begin with it, or none.
 -- Assumes nothing.
-use mathlib.Core.Path.{◌≡◌, refl, sym, ap, ◌∙◌}
+use mathlib.Core.Path.{◌≡◌, refl, ap, ◌∙◌}
 use mathlib.Core.Bool.{Bool, true, false, cond, ◌&&◌, false≢true}
 use mathlib.Core.List.{List, [], ◌∷◌}
-use Prim.Native.Nat.{ℕ, zero, suc, ◌+◌, ◌≤◌, ◌<◌, zero-le, suc-le-suc}
+use Prim.Native.Nat.{ℕ, suc, ◌+◌, ◌≤◌, ◌<◌, zero-le, suc-le-suc}
 use native.Mathlib.Omega.{arith}
 use borrow.Author.Tests.{leb-true, leb-false}
 use lib.Dec.{T, leb, leb→le}
@@ -11,7 +11,7 @@ use lib.ListN.{length, get_or, drop}
 use lib.Seq.{drop-cons, get_or-drop}
 use Rattle.lines.specs.Lf.{within, all}
 use Rattle.text.specs.Utf8Form.{seq_len, seq_by, begins, grammar}
-use Rattle.lines.proofs.Tests.{is-in, is-out, and-true, and-false, T-left, T-right}
+use Rattle.lines.proofs.Tests.{is-in, is-out, and-true, T-left, T-right}
 
 module _ (a b c d : ℕ) where
   pub lead1 : a < 0x80 → seq_len (a ∷ b ∷ c ∷ d ∷ []) ≡ 1

@@ -12,9 +12,8 @@ use lib.ListN.{length, get_or, drop}
 use lib.Seq.{drop-cons, drop-drop}
 use Rattle.lines.specs.Lf.{all}
 use Rattle.lines.proofs.Tests.{and_left, and_right, is-in}
-use Rattle.text.specs.Utf8Form.{seq_len, scan, bad_or}
+use Rattle.text.specs.Utf8Form.{seq_len, scan}
 use Rattle.text.specs.Inner.Utf8Form.{is_ascii}
-use Rattle.text.specs.declared.Utf8.{Utf8}
 use Rattle.text.specs.declared.Utf8.TheVariants.{Valid, Bad}
 
 pub scan-skip : (k i : ℕ) (l : List ℕ) → scan k i l ≡ scan 0 (i + k) (drop k l)

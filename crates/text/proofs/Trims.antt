@@ -13,7 +13,7 @@ use Rattle.lines.proofs.Tests.{and_left, and_right}
 use Rattle.text.specs.White.{is_white}
 use lib.Seq.{drop-cons, drop-drop, get_or-drop, take_all}
 use Rattle.text.specs.Trim.{white_head, white_tail, lead, end_white, or_on, from_of, to_of, to_end, trim_start, trim_of}
-use Rattle.text.proofs.Whites.{head-le, tail-le, head-ascii, tail-ascii, ascii-dark}
+use Rattle.text.proofs.Whites.{head-le, head-ascii, tail-ascii, ascii-dark}
 
 -- ---- the front
 

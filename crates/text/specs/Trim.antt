@@ -1,5 +1,5 @@
 -- `str::trim`, `trim_start`, `trim_end`: a text without the white space at its ends. A white space is the well-formed sequence of a code point of White_Space; it has at most 3 bytes.
-use Rattle.std.specs.Prelude.{ℕ, zero, suc, ◌+◌, ◌-◌, ◌*◌, ◌%◌, Bool, true, false, cond, ◌&&◌, List, [], ◌∷◌, length, take, drop, eqb}
+use Rattle.std.specs.Prelude.{ℕ, zero, suc, ◌+◌, ◌-◌, ◌*◌, ◌%◌, Bool, cond, ◌&&◌, List, [], ◌∷◌, length, take, drop, eqb}
 use Rattle.std.proofs.Math.Seq.{slice}
 use Rattle.text.specs.White.{is_white}
 use Rattle.text.specs.Utf8Form.{seq_len}

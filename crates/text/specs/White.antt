@@ -1,5 +1,5 @@
 -- `char::is_whitespace`: Unicode's White_Space, by ranges of code points.
-use Rattle.std.specs.Prelude.{ℕ, Bool, true, false, ◌&&◌, ◌||◌, eqb}
+use Rattle.std.specs.Prelude.{ℕ, Bool, ◌||◌, eqb}
 use Rattle.lines.specs.Lf.{within}
 
 -- the 25 code points of White_Space

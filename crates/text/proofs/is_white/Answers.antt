@@ -6,6 +6,7 @@ use native.Mathlib.Omega.{arith}
 use borrow.Author.Tests.{ne_eqb}
 use Rattle.text.specs.White.{is_white}
 use Rattle.lines.proofs.Tests.{or-true, is-in, is-out}
+use Rattle.std.proofs.Common.{rules}
 use Rattle.text.proofs.is_white.Goals as goal
 
 -- the numbers that stand alone
@@ -38,28 +39,28 @@ none c p q r n =
     )
 
 pub returns-in_default : goal.returns-in_default
-returns-in_default c = none _ (omega arith) (omega arith) (omega arith) c.in-9-to-13.rest.1
+returns-in_default c = none _ (omega arith) (omega arith) (omega arith) (search rules)
 
 pub returns-in_default-2 : goal.returns-in_default-2
-returns-in_default-2 c = none _ (omega arith) (omega arith) (omega arith) c.in-9-to-13.rest.1
+returns-in_default-2 c = none _ (omega arith) (omega arith) (omega arith) (search rules)
 
 pub returns-in_default-3 : goal.returns-in_default-3
-returns-in_default-3 c = none _ (omega arith) (omega arith) (omega arith) c.in-9-to-13.rest.1
+returns-in_default-3 c = none _ (omega arith) (omega arith) (omega arith) (search rules)
 
 pub returns-in_default-4 : goal.returns-in_default-4
-returns-in_default-4 c = none _ (omega arith) (omega arith) (omega arith) c.in-9-to-13.rest.1
+returns-in_default-4 c = none _ (omega arith) (omega arith) (omega arith) (search rules)
 
 pub returns-in-9-to-13 : goal.returns-in-9-to-13
-returns-in-9-to-13 c = alone _ c.in-9-to-13.keys1
+returns-in-9-to-13 c = alone _ (search rules)
 
 pub returns-in-9-to-13-2 : goal.returns-in-9-to-13-2
 unfolding is_white
-returns-in-9-to-13-2 c = simp (is-in 9 13 _ c.if-c-lt9.false (omega arith))
+returns-in-9-to-13-2 c = simp (is-in 9 13 c.args.c (omega arith) (omega arith))
 
 pub returns-in-9-to-13-3 : goal.returns-in-9-to-13-3
 unfolding is_white
-returns-in-9-to-13-3 c = simp (is-in 8192 8202 _ c.if-c-lt8192.false (omega arith), or-true)
+returns-in-9-to-13-3 c = simp (is-in 8192 8202 c.args.c (omega arith) (omega arith), or-true)
 
 pub returns-in-9-to-13-4 : goal.returns-in-9-to-13-4
 unfolding is_white
-returns-in-9-to-13-4 c = simp (is-in 8232 8233 _ c.if-c-lt8232.false (omega arith), or-true)
+returns-in-9-to-13-4 c = simp (is-in 8232 8233 c.args.c (omega arith) (omega arith), or-true)

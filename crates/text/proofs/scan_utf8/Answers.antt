@@ -1,11 +1,14 @@
-use mathlib.Core.Path.{sym, ap, ◌∙◌}
-use Prim.Native.Nat.{◌-◌}
+use mathlib.Core.Path.{refl, sym, ap, ◌∙◌}
 use native.Mathlib.Omega.{arith}
 use lib.ListN.{drop, drop_of_length-le}
-use Rattle.text.specs.Utf8Form.{scan}
+use Rattle.text.specs.Utf8Form.{scan, utf8_of}
 use Rattle.text.proofs.Rows.{seq_len-le}
 use Rattle.text.proofs.Scan.{scan-bad, scan-on}
 use Rattle.text.proofs.scan_utf8.Goals as goal
+
+pub loop-i-init : goal.loop-i-init
+unfolding utf8_of
+loop-i-init c = refl
 
 pub returns-then-n-eq0 : goal.returns-then-n-eq0
 returns-then-n-eq0 c =

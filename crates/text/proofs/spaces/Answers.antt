@@ -1,4 +1,3 @@
-use Prim.Native.Nat.{◌-◌}
 use native.Mathlib.Omega.{arith}
 use Rattle.text.proofs.Trims.{front-space}
 use Rattle.text.proofs.spaces.Goals as goal
