@@ -9,7 +9,7 @@ use borrow.Author.Tests.{eq-eqb, ne_eqb, eqb-true, ltb-true}
 use lib.Dec.{eqb, leb}
 use lib.ListN.{get_or}
 use Rattle.lines.specs.Lf.{among}
-use Rattle.lines.proofs.Tests.{no, and_left, and_right}
+use Rattle.lines.proofs.Tests.{and_left, and_right}
 use Rattle.origins.specs.declared.Went.{Went}
 use Rattle.origins.specs.declared.Went.TheVariants.{Equal, Changed, Inside, Away}
 use Rattle.origins.specs.Form.{Shape, gone_of}

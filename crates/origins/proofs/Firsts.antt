@@ -13,7 +13,6 @@ use Rattle.lines.specs.Inner.Lf.{lacks}
 use Rattle.lines.proofs.Tests.{no, and-false, and-true}
 use Rattle.lines.proofs.Compare.{same-eq, same_refl}
 use Rattle.lines.proofs.LfLaws.{up_to-le, lacks-cons, eight_is, rest_of}
-use Rattle.origins.specs.declared.Went.{Went}
 use Rattle.origins.specs.declared.Went.TheVariants.{Equal, Changed, Inside, Away}
 use Rattle.origins.specs.Inner.Codes.{far_move, half}
 use Rattle.origins.proofs.TableLaws.{in-any}

@@ -4,16 +4,14 @@ use mathlib.Core.Path.{◌≡◌, refl, sym, ap, subst, ◌∙◌}
 use mathlib.Core.Bool.{Bool, true, false, cond}
 use mathlib.Core.List.{List, [], ◌∷◌, ◌++◌, append_assoc, append-nil}
 use native.Mathlib.Omega.{arith}
-use native.Mathlib.Nat.{zero-add, add-zero}
-use native.Mathlib.Numerals.{add-one}
+use native.Mathlib.Nat.{zero-add}
 use borrow.Author.Tests.{eq-eqb, ne_eqb, lt-ltb, le-ltb}
 use lib.Dec.{eqb}
-use lib.ListN.{length, take, drop, get_or, set, length-append, length-take, length-drop, drop_of_length-le, get_or-eq_default}
+use lib.ListN.{length, take, drop, get_or, set, length-append, length-take, length-drop, drop_of_length-le}
 use lib.Seq.{drop-cons, take-length, drop-length, drop-append-add, get_or-append-add}
 use Rattle.lines.specs.Inner.Out.{Wrote}
-use Rattle.lines.proofs.OutLaws.{wrote-byte, wrote_as, wrote-nil, wrote-more, wrote-whole}
-use Rattle.origins.specs.Fates.{staying}
-use Rattle.origins.specs.Inner.Codes.{code_of, codes_of, far_move, note_of, half, taken_code, land_go, on_code, through, standing}
+use Rattle.lines.proofs.OutLaws.{wrote-byte, wrote_as}
+use Rattle.origins.specs.Inner.Codes.{far_move, note_of, half, taken_code, land_go, through, standing}
 
 -- inside a list it is all one what stands past its end
 pub in-any : (l : List ℕ) (i a b : ℕ) → i < length l → get_or l i a ≡ get_or l i b

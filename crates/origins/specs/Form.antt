@@ -1,5 +1,5 @@
 -- Origin records as bytes: request 1's form, and that of request 8, by one statement over the width of a line number. Assumes nothing.
-use Rattle.std.specs.Prelude.{ℕ, zero, suc, ◌+◌, ◌-◌, ◌/◌, ◌%◌, ◌^◌, List, [], ◌∷◌, ◌++◌}
+use Rattle.std.specs.Prelude.{ℕ, suc, ◌+◌, ◌-◌, ◌^◌, List, [], ◌∷◌, ◌++◌}
 use Prim.Native.Char.{code}
 use Rattle.lines.specs.Lf.{low_bytes}
 use Rattle.origins.specs.declared.Went.{Went}
