@@ -73,7 +73,7 @@ fn is_formed(l: &[u8], a: usize) -> bool
 
 // Whether a line is a word, with its quote, and a text as it is written.
 fn is_quoted(w: &[u8], l: &[u8]) -> bool
-    ensures { result ≡ isQuotedLine w.now l.now }
+    ensures { result ≡ is_quoted_line w.now l.now }
 {
     if !lines::starts_with(l, w) {
         return false;
@@ -100,7 +100,7 @@ fn last_colon(l: &[u8]) -> usize
 
 // The number that digits are; 0 where they are none.
 fn number_in(s: &[u8]) -> u64
-    ensures { result ≡ value_of (readNumber s.now) }
+    ensures { result ≡ value_of (read_number s.now) }
 {
     match names::read_number(s) {
         Number::Of(n) => n,
@@ -123,7 +123,7 @@ fn is_decimal(s: &[u8], v: u64) -> bool
 
 // Whether a name is the name of a file.
 fn is_file_name(name: &[u8]) -> bool
-    ensures { result ≡ isFileName name.now }
+    ensures { result ≡ is_file_name name.now }
 {
     if name.len() == 0 {
         return false;
@@ -133,7 +133,7 @@ fn is_file_name(name: &[u8]) -> bool
 
 // Whether a line is a reference: its word, the name of a file, a colon, and a number as it is printed.
 fn is_reference(l: &[u8]) -> bool
-    ensures { result ≡ isReference l.now }
+    ensures { result ≡ is_reference l.now }
 {
     let c = last_colon(l);
     if !is_file_name(lines::cut(l, REF_WORD, c)) {
@@ -169,7 +169,7 @@ fn is_next(name: &[u8], least: u64, l: &[u8]) -> bool
 
 // Whether a line is the reference that is awaited.
 fn is_ref(name: &[u8], least: u64, l: &[u8]) -> bool
-    ensures { result ≡ (isReference l.now && follows name.now least l.now) }
+    ensures { result ≡ (is_reference l.now && follows name.now least l.now) }
 {
     if is_reference(l) {
         return is_next(name, least, l);
@@ -192,7 +192,7 @@ fn next_awaited(w: usize) -> usize
 
 // Whether a text is that of a msgid among the first `k` lines of a file.
 fn is_above(file: &[u8], k: usize, s: &[u8]) -> bool
-    ensures { result ≡ known (stateAt file.now k).ids (decoded s.now 34) }
+    ensures { result ≡ known (state_at file.now k).ids (decoded s.now 34) }
 {
     let mut i = 0;
     let mut w = 0;
@@ -214,7 +214,7 @@ fn is_above(file: &[u8], k: usize, s: &[u8]) -> bool
 
 // Whether a line is a msgid of the same text.
 fn is_same_id(w: usize, l: &[u8], s: &[u8]) -> bool
-    ensures { result ≡ sameId w l.now (decoded s.now 34) }
+    ensures { result ≡ same_id w l.now (decoded s.now 34) }
 {
     if w == 5 {
         return same_text(lines::cut(l, ID_WORD, l.len()), QUOTE, s, QUOTE);
@@ -224,9 +224,9 @@ fn is_same_id(w: usize, l: &[u8], s: &[u8]) -> bool
 
 // Whether a text, whose literal's quote stands at a place, is that of a msgid among the first `k` lines; the table tells then of this one too.
 fn is_met(file: &[u8], k: usize, p: usize, s: &[u8], own: &mut [usize]) -> bool
-    requires { Tells file.now own.old (stateAt file.now k).ids }
-    ensures value { result ≡ known (stateAt file.now k).ids (decoded s.now 34) }
-    ensures tells { Tells file.now own.new (decoded s.now 34 ∷ (stateAt file.now k).ids) }
+    requires { Tells file.now own.old (state_at file.now k).ids }
+    ensures value { result ≡ known (state_at file.now k).ids (decoded s.now 34) }
+    ensures tells { Tells file.now own.new (decoded s.now 34 ∷ (state_at file.now k).ids) }
 {
     match index::meet(file, p, s, QUOTE, own) {
         Seek::Held => true,
@@ -238,9 +238,9 @@ fn is_met(file: &[u8], k: usize, p: usize, s: &[u8], own: &mut [usize]) -> bool
 // Whether a line, with `k` lines above it and its first quote at a place, is a msgid of a text that is not empty and was not met; the table
 // tells then of this one too.
 fn is_id(file: &[u8], k: usize, p: usize, l: &[u8], own: &mut [usize]) -> bool
-    requires { Tells file.now own.old (stateAt file.now k).ids }
-    ensures value { result ≡ isId (stateAt file.now k) l.now }
-    ensures tells { result ≡ true → Tells file.now own.new (quotedText idWord l.now ∷ (stateAt file.now k).ids) }
+    requires { Tells file.now own.old (state_at file.now k).ids }
+    ensures value { result ≡ is_id (state_at file.now k) l.now }
+    ensures tells { result ≡ true → Tells file.now own.new (quoted_text id_word l.now ∷ (state_at file.now k).ids) }
 {
     if !is_quoted(b"msgid \"", l) {
         return false;
