@@ -16,7 +16,7 @@ pub loop-c-init : goal.loop-c-init
 loop-c-init c = (c.first_lit-c.ensures.ready, sym (ap first_flaw c.first_lit-c.ensures.t_value))
 
 pub past_lit-next-requires : goal.past_lit-next-requires
-past_lit-next-requires c = (c.loop-c.invariant.0, c.loop-c-test.true)
+past_lit-next-requires c = record { ready = c.loop-c.invariant.0; at_in_bounds = c.loop-c-test.true }
 
 pub lit_rest-requires : goal.lit_rest-requires
 lit_rest-requires c = c.loop-c-test.true
@@ -31,13 +31,13 @@ pub loop-c-smaller : goal.loop-c-smaller
 loop-c-smaller c = omega (arith, c.past_lit-next.ensures.at_lt_at, c.loop-c-test.true)
 
 pub loop-c-preserved : goal.loop-c-preserved
-loop-c-preserved c = let l = c.loop-c in let a = c.args in let p = c.past_lit-next in let f = c.lit_flaw in (p.ensures.ready_2, (ap (λ (g : Flaw). or_else g (first_flaw (spots_from a.t.now p.result))) (sym c.enum_told-1.given.1) ∙ sym (flaw-first a.t.now l.c p.result p.ensures.c_value f.result _ _ f.ensures c.lit_rest.ensures c.byte_at.ensures)) ∙ l.invariant.1)
+loop-c-preserved c = let l = c.loop-c in let a = c.args in let p = c.past_lit-next in let f = c.lit_flaw in (p.ensures.ready_2, (ap (λ (g : Flaw). or_else g (first_flaw (spots_from a.t.now p.result))) (sym c.in-None.is) ∙ sym (flaw-first a.t.now l.c p.result p.ensures.c_value f.result _ _ f.ensures c.lit_rest.ensures c.byte_at.ensures)) ∙ l.invariant.1)
 
 pub returns-in-Escape : goal.returns-in-Escape
-returns-in-Escape c = let l = c.loop-c in let a = c.args in let p = c.past_lit-next in let f = c.lit_flaw in ap (λ (g : Flaw). or_else g (first_flaw (spots_from a.t.now p.result))) (sym c.i-1.given.1) ∙ sym (flaw-first a.t.now l.c p.result p.ensures.c_value f.result _ _ f.ensures c.lit_rest.ensures c.byte_at.ensures) ∙ l.invariant.1
+returns-in-Escape c = let l = c.loop-c in let a = c.args in let p = c.past_lit-next in let f = c.lit_flaw in ap (λ (g : Flaw). or_else g (first_flaw (spots_from a.t.now p.result))) (sym c.in-Escape.is) ∙ sym (flaw-first a.t.now l.c p.result p.ensures.c_value f.result _ _ f.ensures c.lit_rest.ensures c.byte_at.ensures) ∙ l.invariant.1
 
 pub returns-in-Unclosed : goal.returns-in-Unclosed
-returns-in-Unclosed c = let l = c.loop-c in let a = c.args in let p = c.past_lit-next in let f = c.lit_flaw in ap (λ (g : Flaw). or_else g (first_flaw (spots_from a.t.now p.result))) (sym c.i-in-Unclosed-1.given.1) ∙ sym (flaw-first a.t.now l.c p.result p.ensures.c_value f.result _ _ f.ensures c.lit_rest.ensures c.byte_at.ensures) ∙ l.invariant.1
+returns-in-Unclosed c = let l = c.loop-c in let a = c.args in let p = c.past_lit-next in let f = c.lit_flaw in ap (λ (g : Flaw). or_else g (first_flaw (spots_from a.t.now p.result))) (sym c.in-Unclosed.is) ∙ sym (flaw-first a.t.now l.c p.result p.ensures.c_value f.result _ _ f.ensures c.lit_rest.ensures c.byte_at.ensures) ∙ l.invariant.1
 
 pub returns : goal.returns
 returns c = let l = c.loop-c in sym (flaw-end c.args.t.now l.c l.invariant.0 c.loop-c-test.false) ∙ l.invariant.1

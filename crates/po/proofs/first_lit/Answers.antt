@@ -9,4 +9,4 @@ pub returns : goal.returns
 returns c =
     let r = c.line_from in
     let n = c.next_lit.ensures in
-    record { ready = n.0; t_value = (first-start c.args.t.now r.result r.ensures).1 ∙ n.1.1 }
+    record { ready = n.ready; t_value = (first-start c.args.t.now r.result r.ensures).1 ∙ n.from_value }

@@ -19,7 +19,7 @@ pub returns-then-t-c : goal.returns-then-t-c
 returns-then-t-c c = let a = c.args in let l = c.loop-j in sym (known-end a.t.now l.c (a.k - l.j) (decoded a.s.now a.q) l.invariant.0 c.if-t-c.true) ∙ l.invariant.1.1
 
 pub past_lit-next-requires : goal.past_lit-next-requires
-past_lit-next-requires c = (c.loop-j.invariant.0, c.if-t-c.false)
+past_lit-next-requires c = record { ready = c.loop-j.invariant.0; at_in_bounds = c.if-t-c.false }
 
 pub lit_rest-requires : goal.lit_rest-requires
 lit_rest-requires c = c.if-t-c.false

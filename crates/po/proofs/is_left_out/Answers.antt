@@ -18,7 +18,7 @@ pub unit_at-x-requires : goal.unit_at-x-requires
 unit_at-x-requires c = tt
 
 pub is_met-met-requires : goal.is_met-met-requires
-is_met-met-requires c = (c.requires.at_in_bounds, c.requires.tells)
+is_met-met-requires c = record { at_in_bounds = c.requires.at_in_bounds; tells = c.requires.tells }
 
 pub returns-then-x-eq0 : goal.returns-then-x-eq0
 returns-then-x-eq0 c =

@@ -23,18 +23,18 @@ returns-in-Held c =
     let a = c.args in
     let z = text_at a.t.now a.c c.lit_rest-s.ensures c.byte_at-q.ensures in
     let m = c.meet.ensures in
-    record { value = met-yes c.requires.tells z m.0 c.enum_told-1.given.1; tells_2 = met-on c.requires.tells z m.0 a.c.at m.1 _ (known-last _ _) }
+    record { value = met-yes c.requires.tells z m.value c.in-Held.is; tells_2 = met-on c.requires.tells z m.value a.c.at m.own_after _ (known-last _ _) }
 
 pub returns-in-Free : goal.returns-in-Free
 returns-in-Free c =
     let a = c.args in
     let z = text_at a.t.now a.c c.lit_rest-s.ensures c.byte_at-q.ensures in
     let m = c.meet.ensures in
-    record { value = met-no c.requires.tells z m.0 _ c.enum_told-in-Free-1.given.1; tells_2 = met-on c.requires.tells z m.0 a.c.at m.1 _ (known-last _ _) }
+    record { value = met-no c.requires.tells z m.value _ c.in-Free.is; tells_2 = met-on c.requires.tells z m.value a.c.at m.own_after _ (known-last _ _) }
 
 pub returns-in-Unsure : goal.returns-in-Unsure
 returns-in-Unsure c =
     let a = c.args in
     let z = text_at a.t.now a.c c.lit_rest-s.ensures c.byte_at-q.ensures in
     let m = c.meet.ensures in
-    record { value = c.is_known.ensures ∙ ap (known (take a.k (texts (literals a.t.now)))) z; tells_2 = met-on c.requires.tells z m.0 a.c.at m.1 _ (known-last _ _) }
+    record { value = c.is_known.ensures ∙ ap (known (take a.k (texts (literals a.t.now)))) z; tells_2 = met-on c.requires.tells z m.value a.c.at m.own_after _ (known-last _ _) }

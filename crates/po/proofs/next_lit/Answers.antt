@@ -16,7 +16,7 @@ returns-then-at_lit c =
     record { ready = record { stands = l.invariant.0; lit = λ h. sym c.at_lit.ensures ∙ c.if-at_lit.true }; at_le_at = l.invariant.1.0; from_value = l.invariant.1.1 }
 
 pub advance-c-requires : goal.advance-c-requires
-advance-c-requires c = (c.loop-c.invariant.0, c.loop-c-test.true)
+advance-c-requires c = record { stands = c.loop-c.invariant.0; at_in_bounds = c.loop-c-test.true }
 
 pub loop-c-smaller : goal.loop-c-smaller
 loop-c-smaller c = omega (arith, c.advance-c.ensures.at_lt_at, c.loop-c-test.true)

@@ -4,12 +4,12 @@ use Rattle.po.proofs.read_number_of.Goals as goal
 
 pub returns-in-Done : goal.returns-in-Done
 unfolding strings_number
-returns-in-Done c = sym (ap strings_number c.enum_told-1.given.1)
+returns-in-Done c = sym (ap strings_number c.in-Done.is)
 
 pub returns-in-BadLine : goal.returns-in-BadLine
 unfolding strings_number
-returns-in-BadLine c = sym (ap strings_number c.enum_told-in-BadLine-1.given.1)
+returns-in-BadLine c = sym (ap strings_number c.in-BadLine.is)
 
 pub returns-in-Short : goal.returns-in-Short
 unfolding strings_number
-returns-in-Short c = sym (ap strings_number c.enum_told-in-Short-1.given.1)
+returns-in-Short c = sym (ap strings_number c.in-Short.is)

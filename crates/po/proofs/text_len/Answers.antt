@@ -14,7 +14,7 @@ pub escape_len-n-requires : goal.escape_len-n-requires
 escape_len-n-requires c = tt
 
 pub overflow_add-n : goal.overflow_add-n
-overflow_add-n c = let a = c.args in let l = c.loop-i in let g = c.ranges in omega (arith, g.0.1, l.invariant, c.escape_len-n.ensures, written-le a.s.now a.q, length-on a.s.now a.q l.i c.unit_at-x.result c.unit_at-x.ensures c.if-x-eq0.false)
+overflow_add-n c = let a = c.args in let l = c.loop-i in omega (arith, l.invariant, c.escape_len-n.ensures, written-le a.s.now a.q, length-on a.s.now a.q l.i c.unit_at-x.result c.unit_at-x.ensures c.if-x-eq0.false)
 
 pub overflow_add-i : goal.overflow_add-i
 overflow_add-i c = let a = c.args in let l = c.loop-i in omega (arith, size-in a.s.now a.q l.i c.unit_at-x.result c.unit_at-x.ensures c.if-x-eq0.false)

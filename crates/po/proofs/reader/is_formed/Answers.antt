@@ -19,7 +19,7 @@ pub escape_at-requires : goal.escape_at-requires
 escape_at-requires c = c.loop-i-test.true
 
 pub returns-then-not-escape_at : goal.returns-then-not-escape_at
-returns-then-not-escape_at c = let a = c.args in let l = c.loop-i in sym (form-no a.l.now l.i _ c.unit_at-x.ensures c.if-x-eq0.false (sym c.escape_at.ensures ∙ denied c.if-not-escape_at.true)) ∙ l.invariant
+returns-then-not-escape_at c = let a = c.args in let l = c.loop-i in sym (form-no a.l.now l.i _ c.unit_at-x.ensures c.if-x-eq0.false (sym c.escape_at.ensures ∙ c.if-not-escape_at.true)) ∙ l.invariant
 
 pub overflow_add-i : goal.overflow_add-i
 overflow_add-i c = let a = c.args in let l = c.loop-i in omega (arith, size-in a.l.now 34 l.i c.unit_at-x.result c.unit_at-x.ensures c.if-x-eq0.false)
@@ -28,7 +28,7 @@ pub loop-i-smaller : goal.loop-i-smaller
 loop-i-smaller c = omega (arith, c.if-x-eq0.false)
 
 pub loop-i-preserved : goal.loop-i-preserved
-loop-i-preserved c = let a = c.args in let l = c.loop-i in sym (form-on a.l.now l.i _ c.unit_at-x.ensures c.if-x-eq0.false (sym c.escape_at.ensures ∙ granted c.if-not-escape_at.false)) ∙ l.invariant
+loop-i-preserved c = let a = c.args in let l = c.loop-i in sym (form-on a.l.now l.i _ c.unit_at-x.ensures c.if-x-eq0.false (sym c.escape_at.ensures ∙ c.if-not-escape_at.false)) ∙ l.invariant
 
 pub returns : goal.returns
 returns c = let a = c.args in let l = c.loop-i in sym (form-past a.l.now l.i c.loop-i-test.false) ∙ l.invariant

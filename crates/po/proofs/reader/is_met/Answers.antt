@@ -12,16 +12,16 @@ pub returns-in-Held : goal.returns-in-Held
 returns-in-Held c =
     let a = c.args in
     let m = c.meet.ensures in
-    record { value = met-yes c.requires refl m.0 c.enum_told-1.given.1; tells = met-on c.requires refl m.0 a.p m.1 _ (known-first _ _) }
+    record { value = met-yes c.requires refl m.value c.in-Held.is; tells = met-on c.requires refl m.value a.p m.own_after _ (known-first _ _) }
 
 pub returns-in-Free : goal.returns-in-Free
 returns-in-Free c =
     let a = c.args in
     let m = c.meet.ensures in
-    record { value = met-no c.requires refl m.0 _ c.enum_told-in-Free-1.given.1; tells = met-on c.requires refl m.0 a.p m.1 _ (known-first _ _) }
+    record { value = met-no c.requires refl m.value _ c.in-Free.is; tells = met-on c.requires refl m.value a.p m.own_after _ (known-first _ _) }
 
 pub returns-in-Unsure : goal.returns-in-Unsure
 returns-in-Unsure c =
     let a = c.args in
     let m = c.meet.ensures in
-    record { value = c.is_above.ensures; tells = met-on c.requires refl m.0 a.p m.1 _ (known-first _ _) }
+    record { value = c.is_above.ensures; tells = met-on c.requires refl m.value a.p m.own_after _ (known-first _ _) }

@@ -4,7 +4,7 @@ use Rattle.po.specs.Reader.{is_valid}
 use Rattle.po.proofs.reader.is_utf8.Goals as goal
 
 pub returns-in-Valid : goal.returns-in-Valid
-returns-in-Valid c = sym (ap (λ (u : Utf8). is_valid u) (sym c.check_utf8.ensures ∙ c.enum_told-1.given.1))
+returns-in-Valid c = sym (ap (λ (u : Utf8). is_valid u) (sym c.check_utf8.ensures ∙ c.in-Valid.is))
 
 pub returns-in-Bad : goal.returns-in-Bad
-returns-in-Bad c = sym (ap (λ (u : Utf8). is_valid u) (sym c.check_utf8.ensures ∙ c.enum_told-in-Bad-1.given.1))
+returns-in-Bad c = sym (ap (λ (u : Utf8). is_valid u) (sym c.check_utf8.ensures ∙ c.in-Bad.is))

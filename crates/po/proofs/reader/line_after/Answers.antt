@@ -7,10 +7,10 @@ use Rattle.po.proofs.LineLaws.{colon-le}
 use Rattle.po.proofs.reader.line_after.Goals as goal
 
 pub overflow_add-c : goal.overflow_add-c
-overflow_add-c c = let a = c.args in let z = ap length c.cut-l.ensures in omega (arith, c.ranges.0.1, c.requires.end_in_bounds, c.last_colon-c.ensures, colon-le c.cut-l.result.now (length c.cut-l.result.now), part-short a.file.now a.r.at a.r.end)
+overflow_add-c c = let a = c.args in let z = ap length c.cut-l.ensures in omega (arith, c.requires.end_in_bounds, c.last_colon-c.ensures, colon-le c.cut-l.result.now (length c.cut-l.result.now), part-short a.file.now a.r.at a.r.end)
 
 pub overflow_add-result-then-r-eq4 : goal.overflow_add-result-then-r-eq4
-overflow_add-result-then-r-eq4 c = let a = c.args in let z = ap length c.cut-l.ensures in omega (arith, c.ranges.0.1, c.requires.at.inside, c.requires.end_in_bounds, c.last_colon-c.ensures, colon-le c.cut-l.result.now (length c.cut-l.result.now), part-short a.file.now a.r.at a.r.end)
+overflow_add-result-then-r-eq4 c = let a = c.args in let z = ap length c.cut-l.ensures in omega (arith, c.requires.at.inside, c.requires.end_in_bounds, c.last_colon-c.ensures, colon-le c.cut-l.result.now (length c.cut-l.result.now), part-short a.file.now a.r.at a.r.end)
 
 pub returns-then-r-eq4 : goal.returns-then-r-eq4
 returns-then-r-eq4 c =

@@ -4,7 +4,7 @@ use Rattle.po.specs.Reader.{value_of}
 use Rattle.po.proofs.reader.number_in.Goals as goal
 
 pub returns-in-Of : goal.returns-in-Of
-returns-in-Of c = sym (ap (λ (x : Number). value_of x) (sym c.read_number.ensures ∙ c.n-1.given.1))
+returns-in-Of c = sym (ap (λ (x : Number). value_of x) (sym c.read_number.ensures ∙ c.in-Of.is))
 
 pub returns-in-None : goal.returns-in-None
-returns-in-None c = sym (ap (λ (x : Number). value_of x) (sym c.read_number.ensures ∙ c.enum_told-1.given.1))
+returns-in-None c = sym (ap (λ (x : Number). value_of x) (sym c.read_number.ensures ∙ c.in-None.is))

@@ -12,7 +12,7 @@ pub returns-then-x-eq0 : goal.returns-then-x-eq0
 returns-then-x-eq0 c = let a = c.args in let l = c.loop-i in omega (arith, l.invariant, ap length (text-stop a.s.now a.q l.i _ c.unit_at-x.ensures c.if-x-eq0.true))
 
 pub overflow_add-n : goal.overflow_add-n
-overflow_add-n c = let a = c.args in let l = c.loop-i in omega (arith, l.invariant, text-le a.s.now a.q, c.ranges.0.1)
+overflow_add-n c = let a = c.args in let l = c.loop-i in omega (arith, l.invariant, text-le a.s.now a.q)
 
 pub overflow_add-i : goal.overflow_add-i
 overflow_add-i c = let a = c.args in let l = c.loop-i in omega (arith, size-in a.s.now a.q l.i c.unit_at-x.result c.unit_at-x.ensures c.if-x-eq0.false)
