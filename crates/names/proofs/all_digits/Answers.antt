@@ -1,5 +1,5 @@
 use mathlib.Core.Path.{sym, ◌∙◌}
-use Prim.Native.Nat.{ℕ, ◌-◌}
+use Prim.Native.Nat.{ℕ}
 use Rattle.lines.proofs.Tests.{is-in, is_below, is-above}
 use Rattle.names.specs.Names.{is_digit}
 use Rattle.names.proofs.Digits.{all-stop, all-on, all_end}

@@ -3,7 +3,7 @@ use Rattle.names.specs.Names.{reg_is}
 use Rattle.names.proofs.names_reg.Goals as goal
 
 pub returns-in-Reg : goal.returns-in-Reg
-returns-in-Reg c = sym (ap (reg_is c.args.reg.0) (sym c.reg_name.ensures ∙ c.q-1.given.1))
+returns-in-Reg c = sym (ap (reg_is c.args.reg.0) (sym c.reg_name.ensures ∙ c.in-Reg.is))
 
 pub returns-in-None : goal.returns-in-None
-returns-in-None c = sym (ap (reg_is c.args.reg.0) (sym c.reg_name.ensures ∙ c.enum_told-1.given.1))
+returns-in-None c = sym (ap (reg_is c.args.reg.0) (sym c.reg_name.ensures ∙ c.in-None.is))

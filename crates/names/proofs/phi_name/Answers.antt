@@ -4,7 +4,7 @@ use Rattle.names.proofs.Texts.{phi-by}
 use Rattle.names.proofs.phi_name.Goals as goal
 
 pub returns-in-Of : goal.returns-in-Of
-returns-in-Of c = sym (phi-by c.args.s.now ∙ ap phi_by (sym c.number_after.ensures ∙ c.n-1.given.1))
+returns-in-Of c = sym (phi-by c.args.s.now ∙ ap phi_by (sym c.number_after.ensures ∙ c.in-Of.is))
 
 pub returns-in-None : goal.returns-in-None
-returns-in-None c = sym (phi-by c.args.s.now ∙ ap phi_by (sym c.number_after.ensures ∙ c.enum_told-1.given.1))
+returns-in-None c = sym (phi-by c.args.s.now ∙ ap phi_by (sym c.number_after.ensures ∙ c.in-None.is))

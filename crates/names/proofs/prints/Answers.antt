@@ -9,9 +9,9 @@ returns-then-skip_zeros-gt0 c = let a = c.args in sym (prints-not a.s.now a.v (o
 pub returns-in-Of : goal.returns-in-Of
 returns-in-Of c =
     let a = c.args in
-    sym (prints-is a.s.now a.v (omega arith) (omega arith) ∙ ap (number_is a.v) (sym c.read_number.ensures ∙ c.n-1.given.1))
+    sym (prints-is a.s.now a.v (omega arith) (omega arith) ∙ ap (number_is a.v) (sym c.read_number.ensures ∙ c.in-Of.is))
 
 pub returns-in-None : goal.returns-in-None
 returns-in-None c =
     let a = c.args in
-    sym (prints-is a.s.now a.v (omega arith) (omega arith) ∙ ap (number_is a.v) (sym c.read_number.ensures ∙ c.enum_told-1.given.1))
+    sym (prints-is a.s.now a.v (omega arith) (omega arith) ∙ ap (number_is a.v) (sym c.read_number.ensures ∙ c.in-None.is))

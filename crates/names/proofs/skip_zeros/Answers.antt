@@ -1,4 +1,3 @@
-use Prim.Native.Nat.{◌-◌}
 use native.Mathlib.Omega.{arith}
 use Rattle.names.proofs.Digits.{zeros-stop, zeros-on, zeros-end}
 use Rattle.names.proofs.skip_zeros.Goals as goal
