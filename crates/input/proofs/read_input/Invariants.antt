@@ -1,9 +1,8 @@
-use mathlib.Core.Path.{◌≡◌}
-use lib.ListN.{length}
+use Rattle.std.proofs.Common.{◌≡◌, length}
 use Rattle.input.proofs.read_input.Given as goal
 
 abbrev pub invariant-loop-n : goal.invariant-loop-n
-invariant-loop-n l = length l.initial.text ≡ length l.text
+invariant-loop-n o l = length l.initial.text ≡ length l.text
 
 abbrev pub decreases-loop-n : goal.decreases-loop-n
-decreases-loop-n l = l.turns
+decreases-loop-n o l = l.turns
