@@ -1,4 +1,4 @@
-use Rattle.std.proofs.Common.{◌-◌, sym, ◌∙◌, arith}
+use Rattle.std.proofs.Common.{sym, ◌∙◌, arith}
 use Rattle.slots.proofs.SlotLaws.{spot_past, spot-here, spot_on, spot-none}
 use Rattle.slots.proofs.spot.Goals as goal
 

@@ -1,4 +1,4 @@
-use Rattle.std.proofs.Common.{◌≡◌, ◌-◌}
+use Rattle.std.proofs.Common.{◌≡◌}
 use Rattle.slots.specs.Inner.Slots.{spot, spot_go}
 use Rattle.slots.proofs.spot.Given as goal
 

@@ -3,4 +3,4 @@ use Rattle.slots.proofs.GatherLaws.{above-digit}
 use Rattle.slots.proofs.gather.above_zero.Goals as goal
 
 pub returns : goal.returns
-returns c = above-digit c.wrapping_sub_u8.result c.args.b (omega (arith, c.wrapping_sub_u8.type-inv)) c.wrapping_sub_u8.ensures
+returns c = above-digit c.wrapping_sub_u8.result c.args.b (omega (arith, c.wrapping_sub_u8.type_inv)) c.wrapping_sub_u8.ensures.value

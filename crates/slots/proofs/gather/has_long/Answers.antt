@@ -1,4 +1,4 @@
-use Rattle.std.proofs.Common.{◌-◌, sym, ◌∙◌, arith}
+use Rattle.std.proofs.Common.{sym, ◌∙◌, arith}
 use Rattle.slots.proofs.GatherLaws.{long-new, long-old, long-none, long-end}
 use Rattle.slots.proofs.gather.has_long.Goals as goal
 
