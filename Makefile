@@ -41,8 +41,8 @@ link = $$([ "$$(uname -m)" = x86_64 ] && echo cc || echo x86_64-linux-gnu-gcc)
 
 all:
 	@missing=; \
-	for each in "$(PROGRAM)|rt check optlines" "$(LARGE)|rt check optlarge" \
-	    "$(LARGE_SCRIPT)|git checkout $(LARGE_SCRIPT)" "$(VIEW)|rt check optview" \
+	for each in "$(PROGRAM)|tools/built optlines" "$(LARGE)|tools/built optlarge" \
+	    "$(LARGE_SCRIPT)|git checkout $(LARGE_SCRIPT)" "$(VIEW)|tools/built optview" \
 	    "$(ARCHIVE)|make lib" "$(SHARED)|make lib" "$(SCRIPT)|git checkout $(SCRIPT)" \
 	    "$(VIEW_SCRIPT)|git checkout $(VIEW_SCRIPT)" "$(FRONT)|git checkout $(FRONT)" \
 	    "$(RUN_BUILT)|git checkout $(RUN_BUILT)" "$(VERSION)|git checkout $(VERSION)" \
@@ -57,12 +57,12 @@ all:
 
 help:
 	@echo "make            says what is missing and how to build it"; \
-	echo "make lib        proves the library (rt staticlib capi, minutes the first time) and writes"; \
+	echo "make lib        proves the library (tools/built capi, minutes the first time) and writes"; \
 	echo "                $(ARCHIVE) and $(SHARED)"; \
 	echo "make lib-po     the same for include/optpo.h: target/staticlib/libpocapi.a and"; \
 	echo "                target/lib/liboptpo.so.1"; \
 	echo "make shared     writes $(SHARED) from $(ARCHIVE), as it is"; \
-	echo "make records    proves the library for record files (rt staticlib recordcapi) and writes"; \
+	echo "make records    proves the library for record files (tools/built recordcapi) and writes"; \
 	echo "                $(RECORDS_ARCHIVE) and $(RECORDS_SHARED)"; \
 	echo "make install    installs optlines, optlarge and optview, man pages, the header, both libraries and"; \
 	echo "                optlines.pc under PREFIX ($(PREFIX)); DESTDIR goes before it"; \
@@ -72,12 +72,12 @@ help:
 	echo "After an install where the system looks for libraries, run ldconfig once."
 
 lib:
-	rt staticlib capi
+	tools/built capi
 	$(MAKE) shared
 
 # The same for the strings as a PO file: include/optpo.h.
 lib-po:
-	rt staticlib pocapi
+	tools/built pocapi
 	$(MAKE) shared ARCHIVE=target/staticlib/libpocapi.a SHARED=target/lib/liboptpo.so.1 \
 	    exported='optpo_write optpo_read' maker=lib-po
 
@@ -93,7 +93,7 @@ shared:
 
 # The library for record files, proved, and its shared library with the names of its header alone.
 records:
-	rt staticlib recordcapi
+	tools/built recordcapi
 	$(MAKE) records-shared
 
 records-shared:

@@ -14,7 +14,7 @@
  *
  *         cc program.c $(pkg-config --cflags --libs optlines)
  *
- *     From the repository, where `rt staticlib capi` has written the archive:
+ *     From the repository, where `tools/built capi` has written the archive:
  *
  *         cc program.c -Iinclude target/staticlib/libcapi.a
  *

@@ -8,7 +8,7 @@
  * LINKING
  *     The library is for x86-64 Linux. From a checkout:
  *
- *         rt staticlib pocapi
+ *         tools/built pocapi
  *         cc program.c -Iinclude target/staticlib/libpocapi.a
  *
  * DESCRIPTION

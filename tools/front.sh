@@ -6,7 +6,7 @@
 # what a result's name has behind that of its listing, `operands`, how many files the program takes (where it is not set: one or none, and -o for many), `stack`, the
 # KiB of stack that the program is lent where that many are allowed, and `slow`, where it shall be said that a listing takes long, and has to define `usage`.
 #
-#   in the repository   here/tools/front.sh, here/tools/run-built, here/VERSION, here/TOOLCHAIN, here/target/bin/NAME
+#   in the repository   here/tools/front.sh, here/tools/run-built, here/tools/built, here/VERSION, here/TOOLCHAIN, here/target/bin/NAME
 #   installed           PREFIX/bin/NAME (the script; here is PREFIX/bin), and in PREFIX/libexec/optlines/ the files front.sh, run-built,
 #                       VERSION, TOOLCHAIN and NAME (the program). Nothing is built then.
 #
@@ -95,7 +95,7 @@ pinned() {
 say_stale() {
     [ -d "$root/crates" ] || return 0
     [ -z "$(find "$root/crates" -name '*.rt' -newer "$program" | head -n 1)" ] ||
-        note "sources are newer than the program: rt check $name builds it anew"
+        note "sources are newer than the program: tools/built $name builds it anew"
 }
 
 # Proves and builds the program, where it is not there.
@@ -107,33 +107,31 @@ build() {
     count=$(crates_of "$name")
     note "proving and building, once: $count crates, about 20 minutes on two cores"
     note "for a quick look, in half a minute and unproved, stop this and run: $0 --unproved .."
-    { (cd "$root" && rt check "$name" </dev/null 2>&1); echo "rt: status $?"; } | progress "$count" ||
+    { "$root/tools/built" "$name" </dev/null 2>&1; echo "rt: status $?"; } | progress "$count" ||
         die 'not built: target/log/ has what the prover said of each crate'
-    [ -x "$program" ] || die "rt has $name as proved, and its program is not there: remove target/stamp/$name and run this again"
+    [ -x "$program" ] || die "$name is proved, and its program is not there: remove crates/$name/out and run this again"
 }
 
-# A stand-in for the folder of the toolchain, whose compiler keeps the object that is made at -O3.
-stand_in() { # KIT FOLDER OBJECT
-    own=$1/on/$(uname -m)
-    new=$2/on/$(uname -m)
-    mkdir -p "$new/toolchain/bin" || return
-    ln -s "$1/KIT-ID" "$1/lib" "$1/libs" "$1/logic" "$2/" || return
-    ln -s "$own/bin" "$own/rlib" "$own/logic-built" "$new/" || return
-    ln -s "$own/toolchain/lib" "$new/toolchain/" || return
-    for tool in "$own"/toolchain/bin/*; do
-        [ "${tool##*/}" = clang ] || ln -s "$tool" "$new/toolchain/bin/" || return
+# A stand-in for the folder of the toolchain, whose linker keeps the program that it makes.
+stand_in() { # KIT FOLDER PROGRAM
+    mkdir -p "$2/bin" "$2/toolchain/bin" || return
+    cp "$1/bin/rt" "$1/bin/rtlib.py" "$2/bin/" || return
+    for each in "$1"/bin/* "$1"/toolchain/bin/* "$1"/toolchain/lib "$1"/*; do
+        case $each in
+        "$1/bin" | "$1/toolchain" | */bin/rt | */bin/rtlib.py | */bin/ld.lld) ;;
+        *) ln -s "$each" "$2${each#"$1"}" || return ;;
+        esac
     done
-    cat >"$new/toolchain/bin/clang" <<END || return
+    cat >"$2/toolchain/bin/ld.lld" <<END || return
 #!/bin/sh
-"$own/toolchain/bin/clang" "\$@" || exit
-case " \$* " in *' -O3 '*) ;; *) exit 0 ;; esac
+"$1/toolchain/bin/ld.lld" "\$@" || exit
 while [ "\$1" != -o ]; do shift; done
 cp "\$2" "$3"
 END
-    chmod +x "$new/toolchain/bin/clang"
+    chmod +x "$2/toolchain/bin/ld.lld"
 }
 
-# Builds the program with no proof. `rt try` compiles it, runs it on its sample and keeps nothing, so a stand-in keeps the compiled object.
+# Builds the program with no proof. `rt try` compiles it, runs it on its sample and keeps nothing, so a stand-in keeps the linked program.
 build_unproved() {
     [ -n "$root" ] || die 'an installed program is not built anew: --unproved is for the repository'
     program=$root/target/unproved/$name
@@ -142,14 +140,10 @@ build_unproved() {
     kit=$("$runner" --kit) || exit 2
     note 'building without a proof, about half a minute'
     scratch=$(mktemp -d) || die 'cannot make a temporary folder'
-    stand_in "$kit" "$scratch" "$scratch/$name.o" || die 'cannot make a stand-in for the toolchain'
-    said=$(cd "$root" && RATTLE_HOME=$scratch rt try "$name" 2>&1 && [ -f "$scratch/$name.o" ]) ||
-        { printf '%s\n' "$said" >&2; die 'not built: what rt says stands above'; }
+    stand_in "$kit" "$scratch" "$scratch/$name" || die 'cannot make a stand-in for the toolchain'
+    said=$(cd "$root/crates/$name" && "$scratch/bin/rt" try 2>&1 </dev/null)
+    [ -f "$scratch/$name" ] || { printf '%s\n' "$said" >&2; die 'not built: what rt says stands above'; }
     mkdir -p "$root/target/unproved" || die 'cannot make target/unproved'
-    own=$kit/on/$(uname -m)
-    said=$("$own/bin/rattle-link" --target x86_64-unknown-linux-gnu --toolchain "$own/toolchain" \
-        -o "$scratch/$name" "$scratch/$name.o" "$kit/lib/libos_c.a" 2>&1) ||
-        { printf '%s\n' "$said" >&2; die 'not linked: what the linker says stands above'; }
     mv -f -- "$scratch/$name" "$program" || die 'cannot write target/unproved'
     clean
 }

@@ -31,7 +31,7 @@ fn main() {
     let archive = folder.join(ARCHIVE);
     if !archive.is_file() {
         refuse(&format!(
-            "no {ARCHIVE} in {}: run `rt staticlib pocapi` in the repository, or set OPTPO_LIB_DIR",
+            "no {ARCHIVE} in {}: run `tools/built pocapi` in the repository, or set OPTPO_LIB_DIR",
             folder.display()
         ));
     }

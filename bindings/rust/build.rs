@@ -28,7 +28,7 @@ fn folder() -> (PathBuf, &'static str) {
             let built = Path::new(&crate_folder).join("../../target/staticlib");
             (
                 built,
-                "run `rt staticlib capi` in the repository, or set OPTLINES_LIB_DIR",
+                "run `tools/built capi` in the repository, or set OPTLINES_LIB_DIR",
             )
         }
     }
