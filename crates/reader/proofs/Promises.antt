@@ -11,7 +11,7 @@ use Rattle.origins.specs.declared.Went.TheVariants.{Equal, Changed, Inside, Away
 use Rattle.origins.specs.declared.Form.{Form}
 use Rattle.origins.specs.declared.Form.TheVariants.{Ol, Om}
 use Rattle.origins.specs.Form.{Shape, form_shape, gone_of, file_of}
-use Rattle.origins.specs.Read.{says, read_file}
+use Rattle.origins.specs.Read.{read_file}
 use Rattle.origins.specs.Answers.{behind_from, behind, lines_by, lines_for, found, refused, denied, fits_from}
 use Rattle.origins.proofs.RoundTrip.{bytes, read-file, write-file}
 use Rattle.origins.proofs.Behind.{behind-gone}

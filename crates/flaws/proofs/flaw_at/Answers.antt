@@ -1,5 +1,4 @@
 use mathlib.Core.Path.{sym, ◌∙◌}
-use Rattle.flaws.specs.Flaws.{is_cut}
 use Rattle.flaws.proofs.FlawLaws.{over-at, out_at, flaw-none, flaw-over, flaw-outside, flaw-cut, flaw-other}
 use Rattle.flaws.proofs.flaw_at.Goals as goal
 

@@ -1,6 +1,5 @@
 use mathlib.Core.Path.{◌∙◌}
 use native.Mathlib.Omega.{arith}
-use Prim.Native.Nat.{◌-◌}
 use Rattle.reader.proofs.Laws.{check-start, check-end, check-bad, check-long, check-on}
 use Rattle.reader.proofs.check.Goals as goal
 

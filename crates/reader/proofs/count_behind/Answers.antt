@@ -1,5 +1,4 @@
 use native.Mathlib.Omega.{arith}
-use Prim.Native.Nat.{◌-◌}
 use Rattle.reader.proofs.Laws.{count-start, count-on, count-end, one-le}
 use Rattle.reader.proofs.count_behind.Goals as goal
 

@@ -1,4 +1,3 @@
-use Prim.Native.Nat.{◌-◌}
 use native.Mathlib.Omega.{arith}
 use Rattle.lines.proofs.OutLaws.{wrote-length}
 use Rattle.reader.proofs.ChainLaws.{fill_none, fill_on, fill_end}

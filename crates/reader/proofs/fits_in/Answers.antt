@@ -9,13 +9,13 @@ pub returns-then-i-n : goal.returns-then-i-n
 returns-then-i-n c = fits-past (form_shape c.args.g) c.args.i c.args.w _ c.gone_of-n.ensures c.if-i-n.true
 
 pub returns-in-Equal : goal.returns-in-Equal
-returns-in-Equal c = ap (ltb _) c.gone_of-n.ensures ∙ fits_by (form_shape c.args.g) c.args.i c.args.w _ _ c.gone_of-n.ensures (omega (arith, c.if-i-n.false)) c.w-1.given.1
+returns-in-Equal c = ap (ltb _) c.gone_of-n.ensures ∙ fits_by (form_shape c.args.g) c.args.i c.args.w _ _ c.gone_of-n.ensures (omega (arith, c.if-i-n.false)) c.in-Equal.is
 
 pub returns-in-Changed : goal.returns-in-Changed
-returns-in-Changed c = ap (ltb _) c.gone_of-n.ensures ∙ fits_by (form_shape c.args.g) c.args.i c.args.w _ _ c.gone_of-n.ensures (omega (arith, c.if-i-n.false)) c.w-in-Changed-1.given.1
+returns-in-Changed c = ap (ltb _) c.gone_of-n.ensures ∙ fits_by (form_shape c.args.g) c.args.i c.args.w _ _ c.gone_of-n.ensures (omega (arith, c.if-i-n.false)) c.in-Changed.is
 
 pub returns-in-Inside : goal.returns-in-Inside
-returns-in-Inside c = ap (ltb _) c.gone_of-n.ensures ∙ fits_by (form_shape c.args.g) c.args.i c.args.w _ _ c.gone_of-n.ensures (omega (arith, c.if-i-n.false)) c.w-in-Inside-1.given.1
+returns-in-Inside c = ap (ltb _) c.gone_of-n.ensures ∙ fits_by (form_shape c.args.g) c.args.i c.args.w _ _ c.gone_of-n.ensures (omega (arith, c.if-i-n.false)) c.in-Inside.is
 
 pub returns-in-Away : goal.returns-in-Away
-returns-in-Away c = fits_by (form_shape c.args.g) c.args.i c.args.w _ _ c.gone_of-n.ensures (omega (arith, c.if-i-n.false)) c.enum_told-1.given.1
+returns-in-Away c = fits_by (form_shape c.args.g) c.args.i c.args.w _ _ c.gone_of-n.ensures (omega (arith, c.if-i-n.false)) c.in-Away.is

@@ -1,5 +1,4 @@
 use native.Mathlib.Omega.{arith}
-use Prim.Native.Nat.{◌-◌}
 use Rattle.lines.proofs.OutLaws.{writing-length}
 use Rattle.reader.proofs.Laws.{behind-begin, behind-room, behind-on, behind-end}
 use Rattle.reader.proofs.put_behind.Goals as goal

@@ -1,5 +1,4 @@
 use native.Mathlib.Omega.{arith}
-use Prim.Native.Nat.{◌-◌}
 use Rattle.lines.proofs.OutLaws.{writing-length}
 use Rattle.reader.proofs.Laws.{file-start, file-room, file-on, file-end}
 use Rattle.reader.proofs.put_file.Goals as goal

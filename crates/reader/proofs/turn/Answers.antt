@@ -7,48 +7,48 @@ use Rattle.reader.proofs.Laws.{turn-refused, turn-for, fine-says}
 use Rattle.reader.proofs.turn.Goals as goal
 
 pub answer_turn-requires : goal.answer_turn-requires
-answer_turn-requires c = (fine-says (form_shape c.args.f) c.args.file.now _ (sym c.m-1.given.1 ∙ c.check.ensures)).1
+answer_turn-requires c = (fine-says (form_shape c.args.f) c.args.file.now _ (sym c.in-Fine.is ∙ c.check.ensures)).1
 
 pub returns-in-Fine : goal.returns-in-Fine
 returns-in-Fine c =
-    record { answer = c.answer_turn.ensures.answer ∙ ap turned_reply (turn-for (form_shape c.args.f) (form_shape c.args.g) c.args.file.now _ _ (length c.args.out.now) c.check.ensures c.m-1.given.1); memory = c.answer_turn.ensures.memory ∙ ap (λ (l : Turned). turned_after l c.args.out.now) (turn-for (form_shape c.args.f) (form_shape c.args.g) c.args.file.now _ _ (length c.args.out.now) c.check.ensures c.m-1.given.1) }
+    record { answer = c.answer_turn.ensures.answer ∙ ap turned_reply (turn-for (form_shape c.args.f) (form_shape c.args.g) c.args.file.now _ _ (length c.args.out.now) c.check.ensures c.in-Fine.is); memory = c.answer_turn.ensures.memory ∙ ap (λ (l : Turned). turned_after l c.args.out.now) (turn-for (form_shape c.args.f) (form_shape c.args.g) c.args.file.now _ _ (length c.args.out.now) c.check.ensures c.in-Fine.is) }
 
 pub returns-in-Cut : goal.returns-in-Cut
 returns-in-Cut c =
-    let whole = turn-refused (form_shape c.args.f) c.args.file.now c.args.out.now _ _ c.check.ensures c.i-1.given.1 (form_shape c.args.g) refl in
+    let whole = turn-refused (form_shape c.args.f) c.args.file.now c.args.out.now _ _ c.check.ensures c.in-Cut.is (form_shape c.args.g) refl in
     record { answer = whole.0; memory = whole.1 }
 
 pub returns-in-WrongMark : goal.returns-in-WrongMark
 returns-in-WrongMark c =
-    let whole = turn-refused (form_shape c.args.f) c.args.file.now c.args.out.now _ _ c.check.ensures c.i-in-WrongMark-1.given.1 (form_shape c.args.g) refl in
+    let whole = turn-refused (form_shape c.args.f) c.args.file.now c.args.out.now _ _ c.check.ensures c.in-WrongMark.is (form_shape c.args.g) refl in
     record { answer = whole.0; memory = whole.1 }
 
 pub returns-in-OutOfOrder : goal.returns-in-OutOfOrder
 returns-in-OutOfOrder c =
-    let whole = turn-refused (form_shape c.args.f) c.args.file.now c.args.out.now _ _ c.check.ensures c.i-in-OutOfOrder-1.given.1 (form_shape c.args.g) refl in
+    let whole = turn-refused (form_shape c.args.f) c.args.file.now c.args.out.now _ _ c.check.ensures c.in-OutOfOrder.is (form_shape c.args.g) refl in
     record { answer = whole.0; memory = whole.1 }
 
 pub returns-in-UnknownFate : goal.returns-in-UnknownFate
 returns-in-UnknownFate c =
-    let whole = turn-refused (form_shape c.args.f) c.args.file.now c.args.out.now _ _ c.check.ensures c.i-in-UnknownFate-1.given.1 (form_shape c.args.g) refl in
+    let whole = turn-refused (form_shape c.args.f) c.args.file.now c.args.out.now _ _ c.check.ensures c.in-UnknownFate.is (form_shape c.args.g) refl in
     record { answer = whole.0; memory = whole.1 }
 
 pub returns-in-Disagree : goal.returns-in-Disagree
 returns-in-Disagree c =
-    let whole = turn-refused (form_shape c.args.f) c.args.file.now c.args.out.now _ _ c.check.ensures c.i-in-Disagree-1.given.1 (form_shape c.args.g) refl in
+    let whole = turn-refused (form_shape c.args.f) c.args.file.now c.args.out.now _ _ c.check.ensures c.in-Disagree.is (form_shape c.args.g) refl in
     record { answer = whole.0; memory = whole.1 }
 
 pub returns-in-Unfit : goal.returns-in-Unfit
 returns-in-Unfit c =
-    let whole = turn-refused (form_shape c.args.f) c.args.file.now c.args.out.now _ _ c.check.ensures c.i-in-Unfit-1.given.1 (form_shape c.args.g) refl in
+    let whole = turn-refused (form_shape c.args.f) c.args.file.now c.args.out.now _ _ c.check.ensures c.in-Unfit.is (form_shape c.args.g) refl in
     record { answer = whole.0; memory = whole.1 }
 
 pub returns-in-Short : goal.returns-in-Short
 returns-in-Short c =
-    let whole = turn-refused (form_shape c.args.f) c.args.file.now c.args.out.now _ _ c.check.ensures c.i-in-Short-1.given.1 (form_shape c.args.g) refl in
+    let whole = turn-refused (form_shape c.args.f) c.args.file.now c.args.out.now _ _ c.check.ensures c.in-Short.is (form_shape c.args.g) refl in
     record { answer = whole.0; memory = whole.1 }
 
 pub returns-in-NoRoom : goal.returns-in-NoRoom
 returns-in-NoRoom c =
-    let whole = turn-refused (form_shape c.args.f) c.args.file.now c.args.out.now _ _ c.check.ensures c.i-in-NoRoom-1.given.1 (form_shape c.args.g) refl in
+    let whole = turn-refused (form_shape c.args.f) c.args.file.now c.args.out.now _ _ c.check.ensures c.in-NoRoom.is (form_shape c.args.g) refl in
     record { answer = whole.0; memory = whole.1 }

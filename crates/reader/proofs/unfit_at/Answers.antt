@@ -1,5 +1,4 @@
 use native.Mathlib.Omega.{arith}
-use Prim.Native.Nat.{◌-◌}
 use Rattle.lines.proofs.Tests.{so}
 use Rattle.reader.proofs.Laws.{fit-start, fit-bad, fit_on, fit-end}
 use Rattle.reader.proofs.unfit_at.Goals as goal
