@@ -262,7 +262,7 @@ fn is_closed(t: &[u8]) -> bool
 // Whether a text is a string: in strict mode one literal; else it begins and ends with one quote,
 // and what stands between is not looked at.
 fn is_quoted(t: &[u8], strict: bool) -> bool
-    ensures { result ≡ quotedIn strict t.now }
+    ensures { result ≡ quoted_in strict t.now }
 {
     if strict {
         return is_closed(t);

@@ -1,7 +1,6 @@
 use mathlib.Core.Path.{refl, sym, ◌∙◌}
 use Prim.Native.Nat.{◌-◌}
 use native.Mathlib.Omega.{arith}
-use borrow.Author.Tests.{not-true, not-false}
 use Rattle.expr.proofs.SpaceLaws.{start-stop, start-more, start-end}
 use Rattle.expr.proofs.space_from.Goals as goal
 
@@ -9,10 +8,10 @@ pub loop-i-init : goal.loop-i-init
 loop-i-init c = (omega arith, refl)
 
 pub returns-then-not-is_space : goal.returns-then-not-is_space
-returns-then-not-is_space c = let l = c.loop-i in (omega arith, sym (l.invariant.1 ∙ start-stop _ l.i (omega arith) (sym c.is_space.ensures ∙ not-true _ c.if-not-is_space.true)))
+returns-then-not-is_space c = let l = c.loop-i in (omega arith, sym (l.invariant.1 ∙ start-stop _ l.i (omega arith) (sym c.is_space.ensures ∙ c.if-not-is_space.true)))
 
 pub loop-i-preserved : goal.loop-i-preserved
-loop-i-preserved c = let l = c.loop-i in (omega arith, l.invariant.1 ∙ start-more _ l.i (omega arith) (sym c.is_space.ensures ∙ not-false _ c.if-not-is_space.false))
+loop-i-preserved c = let l = c.loop-i in (omega arith, l.invariant.1 ∙ start-more _ l.i (omega arith) (sym c.is_space.ensures ∙ c.if-not-is_space.false))
 
 pub returns : goal.returns
 returns c = let l = c.loop-i in (omega arith, sym (l.invariant.1 ∙ start-end _ l.i c.loop-i-test.false))

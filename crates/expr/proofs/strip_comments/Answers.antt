@@ -13,6 +13,4 @@ put-requires c =
     omega (arith, ap (λ (l : List ℕ). length l) z, c.requires)
 
 pub returns-then-k-s : goal.returns-then-k-s
-returns-then-k-s c =
-    let w = c.before.before.before in
-    wrote_as (sym (slash-strip w.before.before.before.before.before.args.s.now w.before.before.find-byte.result w.before.before.find-byte.ensures w.before.if1.true)) c.put.ensures
+returns-then-k-s c = wrote_as (sym (slash-strip c.args.s.now c.find_byte-k.result c.find_byte-k.ensures c.if-k-s.true)) c.put.ensures

@@ -10,12 +10,6 @@ use Rattle.expr.proofs.CommentLaws.{two_fits, byte-room, byte_put}
 use Rattle.expr.proofs.QuoteLaws.{at-close, at-skip, at_open, at-line, at_copy, at-end, quote-to, literal-room, literal-put}
 use Rattle.expr.proofs.strip_quoted.Goals as goal
 
-closed : (c : tie.Then2 invariant-loop decreases-loop) → cut_go (drop c.loop-i.i c.args.s.now) 0 c.loop-i.inside ≡ 32 ∷ cut_go (drop (c.loop-i.i + 2) c.args.s.now) 0 false
-closed c = at-close c.args.s.now c.loop-i.i c.if-inside.true (sym c.two_at.ensures ∙ c.if-two_at.true)
-
-copied : (c : tie.Else5 invariant-loop decreases-loop) → cut_go (drop c.loop-i.i c.args.s.now) 0 c.loop-i.inside ≡ get_or c.args.s.now c.loop-i.i 0 ∷ cut_go (drop (c.loop-i.i + 1) c.args.s.now) 0 c.loop-i.inside
-copied c = at_copy c.args.s.now c.loop-i.i (omega arith) c.if-inside.false (sym c.is_quote.ensures ∙ c.if-is_quote.false) (sym c.two_at-else-is_quote.ensures ∙ c.if-two_at-2.false) (sym c.two_at-else-two_at-2.ensures ∙ c.if-two_at-3.false)
-
 pub loop-i-init : goal.loop-i-init
 unfolding strip_quoted
 loop-i-init c = (omega arith, writing_start _ _ _ c.requires)
@@ -26,16 +20,16 @@ two_at-requires c = tt
 -- a comment is closed here
 
 pub bounds-out-n : goal.bounds-out-n
-bounds-out-n c = byte-room c.loop-i.invariant.1 (closed c)
+bounds-out-n c = byte-room c.loop-i.invariant.1 (at-close c.args.s.now c.loop-i.i c.if-inside.true (sym c.two_at.ensures ∙ c.if-two_at.true))
 
 pub overflow_add-n : goal.overflow_add-n
-overflow_add-n c = omega (arith, byte-room c.loop-i.invariant.1 (closed c))
+overflow_add-n c = omega (arith, byte-room c.loop-i.invariant.1 (at-close c.args.s.now c.loop-i.i c.if-inside.true (sym c.two_at.ensures ∙ c.if-two_at.true)))
 
 pub overflow_add-i : goal.overflow_add-i
 overflow_add-i c = omega (arith, two_fits _ _ c.args.s.now c.loop-i.i (sym c.two_at.ensures ∙ c.if-two_at.true))
 
 pub loop-i-preserved-then-two_at : goal.loop-i-preserved-then-two_at
-loop-i-preserved-then-two_at c = (two_fits _ _ c.args.s.now c.loop-i.i (sym c.two_at.ensures ∙ c.if-two_at.true), byte_put c.loop-i.invariant.1 (closed c))
+loop-i-preserved-then-two_at c = (two_fits _ _ c.args.s.now c.loop-i.i (sym c.two_at.ensures ∙ c.if-two_at.true), byte_put c.loop-i.invariant.1 (at-close c.args.s.now c.loop-i.i c.if-inside.true (sym c.two_at.ensures ∙ c.if-two_at.true)))
 
 pub loop-i-preserved-else-two_at : goal.loop-i-preserved-else-two_at
 loop-i-preserved-else-two_at c = (omega arith, writing-as (at-skip c.args.s.now c.loop-i.i (omega arith) c.if-inside.true (sym c.two_at.ensures ∙ c.if-two_at.false)) c.loop-i.invariant.1)
@@ -85,13 +79,13 @@ returns-then-two_at-3 c = writing-end (writing-as (at-line c.args.s.now c.loop-i
 -- no literal and no comment begins here, and the byte is copied
 
 pub bounds-out-n-else-two_at-3 : goal.bounds-out-n-else-two_at-3
-bounds-out-n-else-two_at-3 c = byte-room c.loop-i.invariant.1 (copied c)
+bounds-out-n-else-two_at-3 c = byte-room c.loop-i.invariant.1 (at_copy c.args.s.now c.loop-i.i (omega arith) c.if-inside.false (sym c.is_quote.ensures ∙ c.if-is_quote.false) (sym c.two_at-else-is_quote.ensures ∙ c.if-two_at-2.false) (sym c.two_at-else-two_at-2.ensures ∙ c.if-two_at-3.false))
 
 pub overflow_add-n-else-two_at-3 : goal.overflow_add-n-else-two_at-3
-overflow_add-n-else-two_at-3 c = omega (arith, byte-room c.loop-i.invariant.1 (copied c))
+overflow_add-n-else-two_at-3 c = omega (arith, byte-room c.loop-i.invariant.1 (at_copy c.args.s.now c.loop-i.i (omega arith) c.if-inside.false (sym c.is_quote.ensures ∙ c.if-is_quote.false) (sym c.two_at-else-is_quote.ensures ∙ c.if-two_at-2.false) (sym c.two_at-else-two_at-2.ensures ∙ c.if-two_at-3.false)))
 
 pub loop-i-preserved : goal.loop-i-preserved
-loop-i-preserved c = (omega arith, byte_put c.loop-i.invariant.1 (copied c))
+loop-i-preserved c = (omega arith, byte_put c.loop-i.invariant.1 (at_copy c.args.s.now c.loop-i.i (omega arith) c.if-inside.false (sym c.is_quote.ensures ∙ c.if-is_quote.false) (sym c.two_at-else-is_quote.ensures ∙ c.if-two_at-2.false) (sym c.two_at-else-two_at-2.ensures ∙ c.if-two_at-3.false)))
 
 pub shape_of-out : goal.shape_of-out
 shape_of-out c = writing-length c.loop-i.invariant.1
