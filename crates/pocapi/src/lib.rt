@@ -1,4 +1,4 @@
-// The entries of crate po for C: include/optpo.h declares them.
+// The entries of crate po as C calls them: crate pocapi_c exports them, and include/optpo.h declares them.
 #![tactic(auto)]
 
 ghost use Rattle.std.specs.Prelude.{◌≡◌, length, replicate};
@@ -59,8 +59,7 @@ fn read_place_of(answer: Strings) -> usize
 }
 
 // Writes the literals of a listing as a PO file. Returns the number of the answer, and stores its length and its place.
-#[unsafe(no_mangle)]
-pub extern "C" fn optpo_write(
+pub fn optpo_write(
     name: &[u8],
     text: &[u8],
     index: &mut [usize],
@@ -81,8 +80,7 @@ pub extern "C" fn optpo_write(
 }
 
 // Reads a PO file of this form. Returns the number of the answer, and stores its length and its place.
-#[unsafe(no_mangle)]
-pub extern "C" fn optpo_read(
+pub fn optpo_read(
     file: &[u8],
     index: &mut [usize],
     out: &mut [u8],

@@ -19,10 +19,10 @@ pub read_number_of-requires : goal.read_number_of-requires
 read_number_of-requires c = tt
 
 pub shape_of-index : goal.shape_of-index
-shape_of-index c = c.read_po-answer.auto.1.0
+shape_of-index c = c.read_po-answer.auto.index
 
 pub shape_of-out : goal.shape_of-out
-shape_of-out c = c.read_po-answer.auto.1.1.0
+shape_of-out c = c.read_po-answer.auto.out
 
 pub returns : goal.returns
 returns c =

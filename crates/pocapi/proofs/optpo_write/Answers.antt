@@ -17,14 +17,14 @@ pub number_of-requires : goal.number_of-requires
 number_of-requires c = tt
 
 pub shape_of-index : goal.shape_of-index
-shape_of-index c = c.write_po-answer.auto.1.1.0
+shape_of-index c = c.write_po-answer.auto.index
 
 pub shape_of-out : goal.shape_of-out
-shape_of-out c = c.write_po-answer.auto.1.1.1.0
+shape_of-out c = c.write_po-answer.auto.out
 
 pub returns : goal.returns
 returns c =
     let a = c.args in
     let w = c.write_po-answer in
-    let whole = answered po_number po_size po_place (λ (r : Po). index_after r a.index.now) (λ (r : Po). po_after r (po_text a.name.now a.text.now) a.out.now) w.ensures.value c.number_of_lem.ensures c.size_of.ensures c.place_of.ensures w.ensures.index_after w.ensures.out_after in
-    record { number = whole.0; size = whole.1.0; place = whole.1.1.0; index = whole.1.1.1.0; result = whole.1.1.1.1.0; number = whole.1.1.1.1.1.0; size = whole.1.1.1.1.1.1.0; place = whole.1.1.1.1.1.1.1.0; index = whole.1.1.1.1.1.1.1.1.0; result = whole.1.1.1.1.1.1.1.1.1 }
+    let whole = answered po_number po_size po_place (λ (r : Po). index_after r a.index.now) (λ (r : Po). po_after r (po_text a.name.now a.text.now) a.out.now) w.ensures.value c.number_of.ensures c.size_of.ensures c.place_of.ensures w.ensures.index_after w.ensures.out_after in
+    record { number = whole.0; size = whole.1.0; place = whole.1.1.0; index = whole.1.1.1.0; result = whole.1.1.1.1 }

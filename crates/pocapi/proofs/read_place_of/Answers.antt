@@ -4,18 +4,12 @@ use Rattle.pocapi.proofs.read_place_of.Goals as goal
 
 pub returns-in-Done : goal.returns-in-Done
 unfolding strings_place
-returns-in-Done c =
-    let whole = sym (ap strings_place c.enum_told-1.given.1) in
-    record {  = whole.0; number = whole.1.0; size = whole.1.1.0; place = whole.1.1.1.0; index = whole.1.1.1.1.0; result = whole.1.1.1.1.1.0; number = whole.1.1.1.1.1.1.0; size = whole.1.1.1.1.1.1.1.0; place = whole.1.1.1.1.1.1.1.1.0; index = whole.1.1.1.1.1.1.1.1.1.0; result = whole.1.1.1.1.1.1.1.1.1.1 }
+returns-in-Done c = sym (ap strings_place c.in-Done.is)
 
 pub returns-in-BadLine : goal.returns-in-BadLine
 unfolding strings_place
-returns-in-BadLine c =
-    let whole = sym (ap strings_place c.answer-1.given.1) in
-    record {  = whole.0; number = whole.1.0; size = whole.1.1.0; place = whole.1.1.1.0; index = whole.1.1.1.1.0; result = whole.1.1.1.1.1.0; number = whole.1.1.1.1.1.1.0; size = whole.1.1.1.1.1.1.1.0; place = whole.1.1.1.1.1.1.1.1.0; index = whole.1.1.1.1.1.1.1.1.1.0; result = whole.1.1.1.1.1.1.1.1.1.1 }
+returns-in-BadLine c = sym (ap strings_place c.in-BadLine.is)
 
 pub returns-in-Short : goal.returns-in-Short
 unfolding strings_place
-returns-in-Short c =
-    let whole = sym (ap strings_place c.answer-in-Short-1.given.1) in
-    record {  = whole.0; number = whole.1.0; size = whole.1.1.0; place = whole.1.1.1.0; index = whole.1.1.1.1.0; result = whole.1.1.1.1.1.0; number = whole.1.1.1.1.1.1.0; size = whole.1.1.1.1.1.1.1.0; place = whole.1.1.1.1.1.1.1.1.0; index = whole.1.1.1.1.1.1.1.1.1.0; result = whole.1.1.1.1.1.1.1.1.1.1 }
+returns-in-Short c = sym (ap strings_place c.in-Short.is)

@@ -4,24 +4,24 @@ use Rattle.pocapi.proofs.size_of.Goals as goal
 
 pub returns-in-Done : goal.returns-in-Done
 unfolding po_size
-returns-in-Done c = sym (ap po_size c.answer-1.given.1)
+returns-in-Done c = sym (ap po_size c.in-Done.is)
 
 pub returns-in-BadName : goal.returns-in-BadName
 unfolding po_size
-returns-in-BadName c = sym (ap po_size c.enum_told-1.given.1)
+returns-in-BadName c = sym (ap po_size c.in-BadName.is)
 
 pub returns-in-NotUtf8 : goal.returns-in-NotUtf8
 unfolding po_size
-returns-in-NotUtf8 c = sym (ap po_size c.enum_told-in-NotUtf8-1.given.1)
+returns-in-NotUtf8 c = sym (ap po_size c.in-NotUtf8.is)
 
 pub returns-in-OtherEscape : goal.returns-in-OtherEscape
 unfolding po_size
-returns-in-OtherEscape c = sym (ap po_size c.enum_told-in-OtherEscape-1.given.1)
+returns-in-OtherEscape c = sym (ap po_size c.in-OtherEscape.is)
 
 pub returns-in-Open : goal.returns-in-Open
 unfolding po_size
-returns-in-Open c = sym (ap po_size c.enum_told-in-Open-1.given.1)
+returns-in-Open c = sym (ap po_size c.in-Open.is)
 
 pub returns-in-Short : goal.returns-in-Short
 unfolding po_size
-returns-in-Short c = sym (ap po_size c.enum_told-in-Short-1.given.1)
+returns-in-Short c = sym (ap po_size c.in-Short.is)
