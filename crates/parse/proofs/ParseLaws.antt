@@ -1,26 +1,23 @@
 -- Laws of reading a line. Assumes nothing.
-use Prim.Native.Nat.{ℕ, zero, suc, ◌+◌, ◌-◌, ◌≤◌, ◌<◌, min}
+use Prim.Native.Nat.{ℕ, ◌+◌, ◌-◌, ◌≤◌, ◌<◌}
 use mathlib.Core.Path.{◌≡◌, refl, sym, ap, ◌∙◌}
-use mathlib.Core.Bool.{Bool, true, false, cond, not, ◌&&◌, ◌||◌}
-use mathlib.Core.List.{List, [], ◌∷◌, ◌++◌}
+use mathlib.Core.Bool.{Bool, true, false, cond, not, ◌&&◌}
+use mathlib.Core.List.{List, [], ◌∷◌}
 use native.Mathlib.Omega.{arith}
-use native.Mathlib.Numerals.{add-one}
-use borrow.Author.Tests.{eq-eqb, ne_eqb, leb-true, leb-false, lt-ltb, le-ltb, ltb-true, ltb-false}
-use lib.Dec.{eqb, leb, ltb}
-use lib.ListN.{length, take, drop, get_or, length-take, length-drop, length-append, drop_of_length-le}
-use lib.Seq.{drop-cons, drop-drop, take_all, take-suc, get_or-drop, length-take-le}
+use borrow.Author.Tests.{eq-eqb, ne_eqb, lt-ltb, le-ltb, ltb-true, ltb-false}
+use lib.Dec.{eqb, ltb}
+use lib.ListN.{length, take, drop, get_or, length-take, length-drop}
 use Rattle.text.specs.Trim.{from_of, to_of, to_end, trim_of}
 use Rattle.names.specs.Names.{reg_of, is_reg}
 use Rattle.names.specs.declared.RegName.{RegName}
 use Rattle.names.specs.declared.RegName.TheVariants as name
-use Rattle.lines.proofs.Tests.{and-false}
-use Rattle.text.proofs.Trims.{from_of-le, to_of-le, to_end-le, trim-part}
+use Rattle.text.proofs.Trims.{from_of-le, to_end-le, trim-part}
 use Rattle.parse.specs.declared.Store.{Store}
 use Rattle.parse.specs.declared.Line.{Line}
 use Rattle.parse.specs.declared.Line.TheVariants as line
-use Rattle.lines.specs.Lf.{part, up_to, ends_in, parts_of, prefixed}
-use Rattle.parse.specs.Parse.{all_regs, let_word, body_of, is_decl, store_by, split_store, store_in, parse_of}
-use Rattle.lines.proofs.LfLaws.{up_to-le, parts_at, parts-at-end, rest_of}
+use Rattle.lines.specs.Lf.{part, up_to, ends_in, parts_of}
+use Rattle.parse.specs.Parse.{all_regs, is_decl, store_by, split_store, store_in, parse_of}
+use Rattle.lines.proofs.LfLaws.{parts_at, parts-at-end, rest_of}
 
 -- ---- the pieces of a declaration
 

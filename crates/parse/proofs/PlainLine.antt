@@ -18,7 +18,6 @@ use Rattle.names.specs.declared.Register.{Register}
 use Rattle.names.specs.declared.RegName.{RegName}
 use Rattle.names.specs.declared.RegName.TheVariants as name
 use Rattle.names.proofs.Texts.{reg-first}
-use Rattle.parse.specs.declared.Store.{Store}
 use Rattle.parse.specs.declared.Line.TheVariants as line
 use Rattle.parse.specs.Parse.{is_decl, store_by, split_store, store_in, parse_of}
 use Rattle.parse.specs.Inner.Parse.{digits_len, plain_byte, plain_value}

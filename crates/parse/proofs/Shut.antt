@@ -10,7 +10,7 @@ use borrow.Author.Tests.{eq-eqb, eqb-true, lt-ltb, ltb-true, ltb-false}
 use lib.Dec.{eqb, ltb}
 use lib.ListN.{length, take, drop, get_or, length-drop}
 use lib.Seq.{drop-cons, drop-nil, drop-drop, take-nil, get_or-take, length-take-le}
-use Rattle.lines.specs.Lf.{part, up_to, parts_of, prefixed, ends_in}
+use Rattle.lines.specs.Lf.{up_to, parts_of, prefixed, ends_in}
 use Rattle.lines.proofs.Tests.{no, and-false, and_left, and_right, and_both}
 use Rattle.text.specs.Trim.{from_of, to_of, trim_of}
 use Rattle.names.specs.Names.{is_digit, is_reg}

@@ -1,5 +1,5 @@
 -- `parse` and `Line::text`: a line is a declaration, a store with its register and value, or other. Assumes nothing.
-use Rattle.std.specs.Prelude.{ℕ, ◌+◌, ◌-◌, Bool, true, false, cond, not, ◌&&◌, List, [], ◌∷◌, length, take, drop, get_or, eqb, ltb}
+use Rattle.std.specs.Prelude.{ℕ, ◌+◌, ◌-◌, Bool, true, cond, not, ◌&&◌, List, [], ◌∷◌, length, take, drop, get_or, eqb, ltb}
 use Prim.Native.Char.{code}
 use Rattle.lines.specs.Ascii.{ascii}
 use Rattle.lines.specs.Lf.{part, up_to, parts_of, prefixed, ends_in}
@@ -7,7 +7,6 @@ use Rattle.text.specs.Trim.{from_of, to_end, trim_of}
 use Rattle.names.specs.Names.{reg_of, is_reg}
 use Rattle.names.specs.declared.RegName.{RegName}
 use Rattle.names.specs.declared.RegName.TheVariants as name
-use Rattle.parse.specs.declared.Store.{Store}
 use Rattle.parse.specs.declared.Line.{Line}
 use Rattle.parse.specs.declared.Line.TheVariants as line
 

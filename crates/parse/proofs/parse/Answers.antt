@@ -19,10 +19,10 @@ pub returns-then-c : goal.returns-then-c
 returns-then-c c = parse-other c.byte_at-c.result c.if-c.true c.if-c-eq114.false c.args.line.now c.trim_from-a.result c.trim_from-a.ensures c.byte_at-c.ensures (so c.declares_at.ensures c.if-declares_at.false)
 
 pub returns-in-Decl : goal.returns-in-Decl
-returns-in-Decl c = sym c.enum_told-1.given.1 ∙ c.parse_any.ensures
+returns-in-Decl c = sym c.in-Decl.is ∙ c.parse_any.ensures
 
 pub returns-in-Store : goal.returns-in-Store
-returns-in-Store c = sym c.s-1.given.1 ∙ c.parse_any.ensures
+returns-in-Store c = sym c.in-Store.is ∙ c.parse_any.ensures
 
 pub returns-in-Other : goal.returns-in-Other
-returns-in-Other c = sym c.enum_told-in-Other-1.given.1 ∙ c.parse_any.ensures
+returns-in-Other c = sym c.in-Other.is ∙ c.parse_any.ensures

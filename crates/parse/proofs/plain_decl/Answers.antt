@@ -1,5 +1,4 @@
 use native.Mathlib.Omega.{arith}
-use borrow.Author.Tests.{not-false}
 use Rattle.lines.proofs.Tests.{no}
 use Rattle.parse.proofs.Shut.{plain-decl-is}
 use Rattle.parse.proofs.plain_decl.Goals as goal
@@ -22,4 +21,4 @@ plain_names-requires c = (omega arith, c.if-line-n-ne59.false)
 pub returns : goal.returns
 returns c =
     let f = c.before.before.before.before.before.before.before.before.before.before.before in
-    λ h. plain-decl-is f.args.line.now f.args.a (omega arith) (not-false _ c.if-not-line-a.false) f.requires c.if-line-n-ne59.false (c.plain_names.ensures h)
+    λ h. plain-decl-is f.args.line.now f.args.a (omega arith) (c.if-not-line-a.false) f.requires c.if-line-n-ne59.false (c.plain_names.ensures h)

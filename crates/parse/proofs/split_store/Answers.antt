@@ -38,7 +38,7 @@ returns-in-Reg c =
     let f : w.result.from ≡ from_of (drop (k + 1) u) = w.ensures.0 ∙ ap from_of (rest_of u (k + 1)) in
     let t : w.result.to ≡ to_end (drop (k + 1) u) = w.ensures.1 ∙ ap (λ (l : List ℕ). to_end l) (rest_of u (k + 1)) in
     rw (f, t) (sym (store-reg a.a u k c.find_byte-k.ensures c.if-k-u.false (λ z. c.if-byte_at-eq61.false (c.byte_at.ensures ∙ z)) r.result (r.ensures ∙ ap reg_of c.trim.ensures.0)
-    ∙ ap (λ (x : RegName). store_by x (a.a + (k + 1)) (drop (k + 1) u)) c.q-1.given.1))
+    ∙ ap (λ (x : RegName). store_by x (a.a + (k + 1)) (drop (k + 1) u)) c.in-Reg.is))
 
 pub returns-in-None : goal.returns-in-None
 returns-in-None c =
@@ -47,4 +47,4 @@ returns-in-None c =
     let k = c.find_byte-k.result in
     let r = c.reg_name in
     sym (store-reg a.a u k c.find_byte-k.ensures c.if-k-u.false (λ z. c.if-byte_at-eq61.false (c.byte_at.ensures ∙ z)) r.result (r.ensures ∙ ap reg_of c.trim.ensures.0)
-    ∙ ap (λ (x : RegName). store_by x (a.a + (k + 1)) (drop (k + 1) u)) c.enum_told-1.given.1)
+    ∙ ap (λ (x : RegName). store_by x (a.a + (k + 1)) (drop (k + 1) u)) c.in-None.is)
