@@ -1,5 +1,5 @@
 -- The last character of a text that grows byte by byte, from its digest. Assumes nothing.
-use Prim.Native.Nat.{ℕ, zero, suc, ◌+◌, ◌-◌, ◌≤◌, ◌<◌}
+use Prim.Native.Nat.{ℕ, suc, ◌-◌, ◌≤◌, ◌<◌}
 use mathlib.Core.Path.{◌≡◌, refl, sym, ap, ◌∙◌}
 use mathlib.Core.Bool.{Bool, true, false, cond, ◌&&◌}
 use mathlib.Core.List.{List, [], ◌∷◌, ◌++◌, append-nil, append_assoc}
@@ -12,10 +12,10 @@ use Rattle.lines.specs.Lf.{within}
 use Rattle.lines.proofs.Tests.{is-in, is_below, is-above, and-true, and-false}
 use Rattle.text.specs.White.{is_white}
 use Rattle.text.specs.Utf8Form.{seq_len}
-use Rattle.text.specs.Trim.{white_char, white_tail, end_white, or_on, to_of}
+use Rattle.text.specs.Trim.{white_char, white_tail, end_white, to_of}
 use Rattle.text.proofs.Whites.{tail_at, pick3, white-yes, white-no}
 use Rattle.text.proofs.Trims.{back-stop, back_on, to_of-le}
-use Rattle.text.proofs.CharsEnd.{tail-append, end-append}
+use Rattle.text.proofs.CharsEnd.{end-append}
 use Rattle.lexical.specs.declared.Tail.{Tail}
 use Rattle.lexical.specs.Lex.{last_of}
 use Rattle.lexical.specs.Inner.Lex.{back_byte, front, tail_of, last_after, pushed, grown}

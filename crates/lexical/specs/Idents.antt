@@ -1,5 +1,5 @@
 -- `ident_words`: the words of an expression that are no registers. Assumes nothing.
-use Rattle.std.specs.Prelude.{ℕ, zero, suc, ◌-◌, ◌%◌, max, Bool, true, false, cond, not, ◌&&◌, ◌||◌, List, [], ◌∷◌, ◌++◌, take, drop}
+use Rattle.std.specs.Prelude.{ℕ, zero, suc, ◌-◌, ◌%◌, max, Bool, true, cond, not, ◌&&◌, ◌||◌, List, [], ◌∷◌, ◌++◌, take, drop}
 use Prim.Native.Char.{code}
 use Rattle.lines.specs.Ascii.{ascii}
 use Rattle.lines.specs.Lf.{within, prefixed, is_empty}

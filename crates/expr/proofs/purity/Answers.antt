@@ -8,7 +8,7 @@ use Rattle.expr.proofs.OnceLaws.{purity-once}
 use Rattle.expr.proofs.purity.Goals as goal
 
 pub slice_bounds-purity_cut-end-2 : goal.slice_bounds-purity_cut-end-2
-slice_bounds-purity_cut-end-2 c = let p = c.cut_in-n in sym (length-take-le p.result _ (omega (arith, p.auto.scratch, p.ensures.place, p.ensures.fits)))
+slice_bounds-purity_cut-end-2 c = let p = c.cut_in-n in sym (length-take-le p.result _ (omega (arith, p.auto.out, p.ensures.place, p.ensures.fits)))
 
 pub returns : goal.returns
 returns c =

@@ -1,4 +1,3 @@
-use Prim.Native.Nat.{◌-◌}
 use mathlib.Core.Path.{sym, ◌∙◌}
 use Rattle.lexical.proofs.EndLaws.{comment-close, comment-star, comment-more, comment-none}
 use Rattle.lexical.proofs.comment_end.Goals as goal

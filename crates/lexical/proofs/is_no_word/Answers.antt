@@ -1,4 +1,3 @@
-use Prim.Native.Nat.{◌-◌}
 use mathlib.Core.Path.{sym, ◌∙◌}
 use Rattle.lexical.proofs.WordLaws.{bare-empty, bare-other, bare-start, digits-on, digits-stop, digits-end}
 use Rattle.lexical.proofs.is_no_word.Goals as goal

@@ -1,4 +1,3 @@
-use Prim.Native.Nat.{◌-◌}
 use mathlib.Core.Path.{sym, ◌∙◌}
 use native.Mathlib.Omega.{arith}
 use Rattle.lexical.proofs.JoinedLaws.{open-start, open-on, open-comment, open-template, open_next, open-end}

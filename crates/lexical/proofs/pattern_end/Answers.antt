@@ -1,6 +1,4 @@
-use Prim.Native.Nat.{◌-◌}
 use mathlib.Core.Path.{sym, ◌∙◌}
-use mathlib.Core.Bool.{false}
 use native.Mathlib.Omega.{arith}
 use Rattle.lexical.proofs.EndLaws.{pattern-after, pattern-open, pattern-shut, pattern-inside, pattern-close, pattern-more, pattern-none}
 use Rattle.lexical.proofs.pattern_end.Goals as goal

@@ -1,4 +1,3 @@
-use Prim.Native.Nat.{◌-◌}
 use native.Mathlib.Omega.{arith}
 use Rattle.lexical.proofs.LexLaws.{lex-on}
 use Rattle.lexical.proofs.PhiLaws.{phi-start, phi-next, phi-end}

@@ -1,4 +1,3 @@
-use Prim.Native.Nat.{◌-◌}
 use mathlib.Core.Path.{sym, ◌∙◌}
 use Rattle.lines.proofs.Tests.{so}
 use Rattle.lexical.proofs.PlainLaws.{plain_more, plain-stop, plain-none}

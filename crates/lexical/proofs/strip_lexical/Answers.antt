@@ -1,4 +1,3 @@
-use Prim.Native.Nat.{◌-◌}
 use native.Mathlib.Omega.{arith}
 use Rattle.lines.proofs.OutLaws.{wrote-length}
 use Rattle.lexical.proofs.LexLaws.{lex-on, strip-start, strip-fits, strip-next, strip-end}
