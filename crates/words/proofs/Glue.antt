@@ -1,13 +1,13 @@
 -- Laws of the tests round a hit, and of what is written in its place. Assumes nothing.
-use Prim.Native.Nat.{ℕ, ◌+◌, ◌-◌, ◌≤◌, ◌<◌}
+use Prim.Native.Nat.{ℕ, ◌+◌, ◌-◌, ◌<◌}
 use mathlib.Core.Path.{◌≡◌, refl, sym, ap, ◌∙◌}
 use mathlib.Core.Bool.{Bool, true, false, not, ◌&&◌, ◌||◌}
-use mathlib.Core.List.{List, [], ◌∷◌, ◌++◌, append-nil}
+use mathlib.Core.List.{List, [], ◌∷◌, ◌++◌}
 use native.Mathlib.Omega.{arith}
-use borrow.Author.Tests.{eq-eqb, ne_eqb, eqb-true, eqb-false, le-leb, lt-leb}
+use borrow.Author.Tests.{eq-eqb, ne_eqb, eqb-true, eqb-false}
 use lib.Dec.{eqb}
-use lib.ListN.{length, take, drop, get_or, length-drop, length-append}
-use Rattle.lines.specs.Lf.{part, prefixed, suffixed, same}
+use lib.ListN.{length, take, drop, get_or, length-append}
+use Rattle.lines.specs.Lf.{part, prefixed}
 use Rattle.lines.proofs.LfLaws.{rest_of}
 use Rattle.lines.proofs.Tests.{and-true}
 use Rattle.text.specs.Trim.{trim_start}

@@ -1,6 +1,5 @@
 use mathlib.Core.Path.{sym, ap, ◌∙◌}
 use mathlib.Core.Bool.{not}
-use borrow.Author.Tests.{not-true, not-false}
 use Rattle.lines.proofs.LfLaws.{rest_of}
 use Rattle.text.specs.Trim.{trim_start}
 use Rattle.words.proofs.Glue.{target-plus, target-minus, target-not, target-store}
@@ -23,7 +22,7 @@ returns-then-not-starts_with c =
     let a = c.args in
     let e = c.trim_start-a.ensures ∙ ap (λ l. trim_start l) (c.cut.ensures ∙ rest_of a.line.now a.to) in
     sym (target-not a.to a.line.now _ e (sym c.starts_with.ensures ∙ c.if-starts_with.false) (sym c.starts_with-2.ensures ∙ c.if-starts_with-2.false)
-    (sym c.starts_with-3.ensures ∙ not-true _ c.if-not-starts_with.true))
+    (sym c.starts_with-3.ensures ∙ c.if-not-starts_with.true))
 
 pub returns : goal.returns
 returns c =
@@ -31,4 +30,4 @@ returns c =
     let e = c.trim_start-a.ensures ∙ ap (λ l. trim_start l) (c.cut.ensures ∙ rest_of a.line.now a.to) in
     ap not c.starts_with-4.ensures
     ∙ sym (target-store a.to a.line.now _ e (sym c.starts_with.ensures ∙ c.if-starts_with.false) (sym c.starts_with-2.ensures ∙ c.if-starts_with-2.false)
-    (sym c.starts_with-3.ensures ∙ not-false _ c.if-not-starts_with.false))
+    (sym c.starts_with-3.ensures ∙ c.if-not-starts_with.false))

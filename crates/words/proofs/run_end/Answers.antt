@@ -1,4 +1,4 @@
-use Prim.Native.Nat.{ℕ, ◌-◌}
+use Prim.Native.Nat.{ℕ}
 use native.Mathlib.Omega.{arith}
 use mathlib.Core.Path.{sym, ap, ◌∙◌}
 use mathlib.Core.Bool.{not}
@@ -7,10 +7,10 @@ use Rattle.words.proofs.RunLaws.{up-here, up-on, up-end}
 use Rattle.words.proofs.run_end.Goals as goal
 
 pub returns-then-not-is_name_byte : goal.returns-then-not-is_name_byte
-returns-then-not-is_name_byte c = let l = c.loop-j in omega (arith, up-here (λ (x : ℕ). not (is_name x)) c.args.s.now l.j c.loop-j-test.true (ap not (sym c.is_name_byte.ensures) ∙ c.if-not-is_name_byte.true), l.invariant)
+returns-then-not-is_name_byte c = let l = c.loop-j in omega (arith, up-here (λ (x : ℕ). not (is_name x)) c.args.s.now l.j c.loop-j-test.true (ap not (sym c.is_name_byte.ensures ∙ c.if-not-is_name_byte.true)), l.invariant)
 
 pub loop-j-preserved : goal.loop-j-preserved
-loop-j-preserved c = let l = c.loop-j in omega (arith, up-on (λ (x : ℕ). not (is_name x)) c.args.s.now l.j c.loop-j-test.true (ap not (sym c.is_name_byte.ensures) ∙ c.if-not-is_name_byte.false), l.invariant)
+loop-j-preserved c = let l = c.loop-j in omega (arith, up-on (λ (x : ℕ). not (is_name x)) c.args.s.now l.j c.loop-j-test.true (ap not (sym c.is_name_byte.ensures ∙ c.if-not-is_name_byte.false)), l.invariant)
 
 pub returns : goal.returns
 returns c = let l = c.loop-j in omega (arith, up-end (λ (x : ℕ). not (is_name x)) c.args.s.now l.j c.loop-j-test.false, l.invariant)
