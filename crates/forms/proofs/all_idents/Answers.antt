@@ -22,13 +22,13 @@ pub returns-then-not-is_simple_ident : goal.returns-then-not-is_simple_ident
 returns-then-not-is_simple_ident c =
     let l = c.loop-i in
     let f = c.find_byte-e in
-    sym (idents-stop c.args.t.now l.i f.result l.invariant.0 f.ensures (sym c.is_simple_ident.ensures ∙ not-true _ c.if-not-is_simple_ident.true)) ∙ l.invariant.1
+    sym (idents-stop c.args.t.now l.i f.result l.invariant.0 f.ensures (sym c.is_simple_ident.ensures ∙ c.if-not-is_simple_ident.true)) ∙ l.invariant.1
 
 pub returns-then-e-t : goal.returns-then-e-t
 returns-then-e-t c =
     let l = c.loop-i in
     let f = c.find_byte-e in
-    sym (idents-last c.args.t.now l.i f.result l.invariant.0 f.ensures c.if-e-t.true (sym c.is_simple_ident.ensures ∙ not-false _ c.if-not-is_simple_ident.false)) ∙ l.invariant.1
+    sym (idents-last c.args.t.now l.i f.result l.invariant.0 f.ensures c.if-e-t.true (sym c.is_simple_ident.ensures ∙ c.if-not-is_simple_ident.false)) ∙ l.invariant.1
 
 pub loop-i-smaller : goal.loop-i-smaller
 loop-i-smaller c = omega (arith, c.find_byte-e.ensures)
@@ -37,4 +37,4 @@ pub loop-i-preserved : goal.loop-i-preserved
 loop-i-preserved c =
     let l = c.loop-i in
     let f = c.find_byte-e in
-    (omega arith, sym (idents-on c.args.t.now l.i f.result l.invariant.0 f.ensures c.if-e-t.false (sym c.is_simple_ident.ensures ∙ not-false _ c.if-not-is_simple_ident.false)) ∙ l.invariant.1)
+    (omega arith, sym (idents-on c.args.t.now l.i f.result l.invariant.0 f.ensures c.if-e-t.false (sym c.is_simple_ident.ensures ∙ c.if-not-is_simple_ident.false)) ∙ l.invariant.1)

@@ -37,5 +37,5 @@ returns c =
     let c2 = c3.before.before in
     let c1 = c2.before.before in
     ors c1.starts_with.result
-    (c2.starts-with2.result ∷ c3.starts-with3.result ∷ c4.starts-with4.result ∷ c5.starts-with5.result ∷ c6.starts-with6.result ∷ c7.starts-with7.result ∷ c.starts_with-8.result ∷ [])
-    ∙ rw (c1.starts_with.ensures, c2.starts-with2.ensures, c3.starts-with3.ensures, c4.starts-with4.ensures, c5.starts-with5.ensures, c6.starts-with6.ensures, c7.starts-with7.ensures, c.starts_with-8.ensures)
+    (c2.starts_with-2.result ∷ c3.starts_with-3.result ∷ c4.starts_with-4.result ∷ c5.starts_with-5.result ∷ c6.starts_with-6.result ∷ c7.starts_with-7.result ∷ c.starts_with-8.result ∷ [])
+    ∙ rw (c1.starts_with.ensures, c2.starts_with-2.ensures, c3.starts_with-3.ensures, c4.starts_with-4.ensures, c5.starts_with-5.ensures, c6.starts_with-6.ensures, c7.starts_with-7.ensures, c.starts_with-8.ensures)

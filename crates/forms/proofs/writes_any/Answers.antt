@@ -23,24 +23,23 @@ pub returns-then-writes : goal.returns-then-writes
 returns-then-writes c =
     let a = c.args in
     let l = c.loop-w in
-    sym (any_word a.clean.now a.line.now l.i c.next_word.ensures c.w-1.given.1 _ c.cut.ensures true (so c.writes.ensures c.if-writes.true)) ∙ l.invariant
+    sym (any_word a.clean.now a.line.now l.i c.next_word.ensures c.in-At.is _ c.cut.ensures true (so c.writes.ensures c.if-writes.true)) ∙ l.invariant
 
 pub loop-w-smaller : goal.loop-w-smaller
 loop-w-smaller c =
     let a = c.args in
     let l = c.loop-w in
-    let w = c.w-1.given in
-    let p = next-placed a.clean.now l.i w.0.0 (sym c.next_word.ensures ∙ w.1) in
+    let p = next-placed a.clean.now l.i c.in-At.w (sym c.next_word.ensures ∙ c.in-At.is) in
     omega arith
 
 pub loop-w-preserved : goal.loop-w-preserved
 loop-w-preserved c =
     let a = c.args in
     let l = c.loop-w in
-    sym (any_word a.clean.now a.line.now l.i c.next_word.ensures c.w-1.given.1 _ c.cut.ensures false (so c.writes.ensures c.if-writes.false)) ∙ l.invariant
+    sym (any_word a.clean.now a.line.now l.i c.next_word.ensures c.in-At.is _ c.cut.ensures false (so c.writes.ensures c.if-writes.false)) ∙ l.invariant
 
 pub returns-in-None : goal.returns-in-None
 returns-in-None c =
     let a = c.args in
     let l = c.loop-w in
-    sym (any_none a.clean.now a.line.now l.i (sym c.next_word.ensures ∙ c.enum_told-1.given.1)) ∙ l.invariant
+    sym (any_none a.clean.now a.line.now l.i (sym c.next_word.ensures ∙ c.in-None.is)) ∙ l.invariant

@@ -17,7 +17,7 @@ starts_with-requires c = tt
 pub returns-then-not-starts_with : goal.returns-then-not-starts_with
 returns-then-not-starts_with c =
     let a = c.args in
-    sym (here-rest a.name.now a.l.now (so c.stores_here.ensures c.if-stores_here.false) ∙ front-other (43 ∷ 43 ∷ []) a.name.now a.l.now (sym c.starts_with.ensures ∙ not-true _ c.if-not-starts_with.true))
+    sym (here-rest a.name.now a.l.now (so c.stores_here.ensures c.if-stores_here.false) ∙ front-other (43 ∷ 43 ∷ []) a.name.now a.l.now (sym c.starts_with.ensures ∙ c.if-not-starts_with.true))
 
 pub cut-requires : goal.cut-requires
 cut-requires c = tt
@@ -29,4 +29,4 @@ pub returns : goal.returns
 returns c =
     let a = c.args in
     c.starts_with-2.ensures
-    ∙ sym (here-rest a.name.now a.l.now (so c.stores_here.ensures c.if-stores_here.false) ∙ front-then (43 ∷ 43 ∷ []) a.name.now a.l.now (sym c.starts_with.ensures ∙ not-false _ c.if-not-starts_with.false) _ c.cut.ensures)
+    ∙ sym (here-rest a.name.now a.l.now (so c.stores_here.ensures c.if-stores_here.false) ∙ front-then (43 ∷ 43 ∷ []) a.name.now a.l.now (sym c.starts_with.ensures ∙ c.if-not-starts_with.false) _ c.cut.ensures)
