@@ -42,7 +42,7 @@ returns c =
     let o = c.optimize-answer in
     let whole = answered _ _ _ _
     o.ensures.answer
-    c.number_of_lem.ensures
+    c.number_of.ensures
     c.length_of.ensures
     c.place_of.ensures
     o.ensures.memory.0

@@ -87,7 +87,7 @@ returns c =
     let e = c.form_of.ensures in
     let whole = answered-large _ _ _ _
     (o.ensures.answer ∙ ap (λ (F : Form). tidy_large_answer g.mode F g.text.now g.a.now g.b.now g.c.now g.d.now g.e.now g.f.now g.g.now g.h.now g.u.now g.v.now g.w.now g.x.now g.p.now g.q.now g.r.now g.t.now g.own.now g.table.now g.out.now g.orig.now) e)
-    c.number_of_lem.ensures
+    c.number_of.ensures
     c.length_of.ensures
     c.place_of.ensures
     o.ensures.memory.0

@@ -10,7 +10,7 @@ pub returns-then-short : goal.returns-then-short
 returns-then-short c = work-short c.args.m c.args.form c.args.text.now (Done 0) _ c.if-text-m.false c.if-short.true
 
 pub returns-in-Bad : goal.returns-in-Bad
-returns-in-Bad c = text-bad c.args.m c.args.form c.args.text.now (Done 0) _ c.if-text-m.false c.if-short.false c.by_flaw.ensures c.flaw_at.ensures (sym c.check_utf8.ensures ∙ c.i-1.given.1)
+returns-in-Bad c = text-bad c.args.m c.args.form c.args.text.now (Done 0) _ c.if-text-m.false c.if-short.false c.by_flaw.ensures c.flaw_at.ensures (sym c.check_utf8.ensures ∙ c.in-Bad.is)
 
 pub returns-in-Valid : goal.returns-in-Valid
-returns-in-Valid c = c.refused_lines.ensures ∙ text-read c.args.m c.args.form c.args.text.now (Done 0) _ c.if-text-m.false c.if-short.false (sym c.check_utf8.ensures ∙ c.enum_told-1.given.1)
+returns-in-Valid c = c.refused_lines.ensures ∙ text-read c.args.m c.args.form c.args.text.now (Done 0) _ c.if-text-m.false c.if-short.false (sym c.check_utf8.ensures ∙ c.in-Valid.is)
