@@ -1,4 +1,4 @@
-// The entries for C and Rust: include/optlines.h declares them.
+// The entries for C and Rust: crate capi_c exports them, and include/optlines.h declares them.
 #![tactic(auto)]
 
 ghost use Rattle.std.specs.Prelude.{◌≡◌};
@@ -11,8 +11,7 @@ ghost use Rattle.capi.specs.Called.{form_of, tidied, passed, tidied_origins, pas
 use origins::Form;
 
 // Runs all passes over a text, in mode 0 (plain), 1 (strict), 2 (joined) or 3 (both). Returns the number of the answer, and stores its length and its place.
-#[unsafe(no_mangle)]
-pub extern "C" fn optlines_optimize(
+pub fn optlines_optimize(
     mode: usize,
     text: &[u8],
     a: &mut [u8],
@@ -40,8 +39,7 @@ pub extern "C" fn optlines_optimize(
 }
 
 // Runs one pass, 1 to 6, over a text, in mode 0 (plain), 1 (strict), 2 (joined) or 3 (both). Returns the number of the answer, and stores its length and its place.
-#[unsafe(no_mangle)]
-pub extern "C" fn optlines_run_pass(
+pub fn optlines_run_pass(
     pass: usize,
     mode: usize,
     text: &[u8],
@@ -80,8 +78,7 @@ fn form_of(form: usize) -> Form
 }
 
 // Runs all passes over a larger text, with records in the form `OL` (0) or `OM` (any other number). Returns the number of the answer, and stores its length and its place.
-#[unsafe(no_mangle)]
-pub extern "C" fn optlines_optimize_large(
+pub fn optlines_optimize_large(
     mode: usize,
     form: usize,
     text: &[u8],
@@ -146,8 +143,7 @@ pub extern "C" fn optlines_optimize_large(
 }
 
 // Runs one pass, 1 to 6, over a larger text, with records in the form `OL` (0) or `OM` (any other number). Returns the number of the answer, and stores its length and its place.
-#[unsafe(no_mangle)]
-pub extern "C" fn optlines_run_pass_large(
+pub fn optlines_run_pass_large(
     pass: usize,
     mode: usize,
     form: usize,

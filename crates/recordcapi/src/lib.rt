@@ -1,4 +1,4 @@
-// Record files for C, Rust and Python: include/optrecords.h declares these functions. The form of a file is told by its first mark.
+// Record files for C, Rust and Python: crate recordcapi_c exports these functions, and include/optrecords.h declares them. The form of a file is told by its first mark.
 #![tactic(auto)]
 
 ghost use Rattle.std.specs.Prelude.{◌≡◌};
@@ -8,8 +8,7 @@ ghost use Rattle.reader.specs.Replies.{reply_number, reply_place, reply_count, l
 ghost use Rattle.recordcapi.specs.Called.{shown, checked_file, record_in, lines_asked, turned_to};
 
 // Checks a file. Returns the number of the answer, and stores how many records there are and the place.
-#[unsafe(no_mangle)]
-pub extern "C" fn optrecords_check(file: &[u8], count: &mut usize, place: &mut usize) -> u8
+pub fn optrecords_check(file: &[u8], count: &mut usize, place: &mut usize) -> u8
     ensures number { result ≡ reply_number (checked_file file.now) }
     ensures count { count.new ≡ reply_count (checked_file file.now) }
     ensures place { place.new ≡ reply_place (checked_file file.now) }
@@ -22,8 +21,7 @@ pub extern "C" fn optrecords_check(file: &[u8], count: &mut usize, place: &mut u
 }
 
 // What record `i` says: returns its fate, and stores its output line. Past the whole records the line is gone.
-#[unsafe(no_mangle)]
-pub extern "C" fn optrecords_record(file: &[u8], i: usize, line: &mut usize) -> u8
+pub fn optrecords_record(file: &[u8], i: usize, line: &mut usize) -> u8
     ensures fate { result ≡ fate_byte (record_in file.now i) }
     ensures line { line.new ≡ out_line (shown file.now) (record_in file.now i) }
 {
@@ -34,8 +32,7 @@ pub extern "C" fn optrecords_record(file: &[u8], i: usize, line: &mut usize) -> 
 }
 
 // Writes the lines that are behind output line `n`. Returns the number of the answer, and stores how many there are and the place.
-#[unsafe(no_mangle)]
-pub extern "C" fn optrecords_lines(
+pub fn optrecords_lines(
     file: &[u8],
     n: usize,
     room: &mut [usize],
@@ -55,13 +52,7 @@ pub extern "C" fn optrecords_lines(
 }
 
 // Writes a file as `OL`. Returns the number of the answer, and stores how many bytes there are and the place.
-#[unsafe(no_mangle)]
-pub extern "C" fn optrecords_to_ol(
-    file: &[u8],
-    out: &mut [u8],
-    count: &mut usize,
-    place: &mut usize,
-) -> u8
+pub fn optrecords_to_ol(file: &[u8], out: &mut [u8], count: &mut usize, place: &mut usize) -> u8
     ensures number { result ≡ reply_number (turned_reply (turned_to Ol file.now out.old)) }
     ensures count { count.new ≡ reply_count (turned_reply (turned_to Ol file.now out.old)) }
     ensures place { place.new ≡ reply_place (turned_reply (turned_to Ol file.now out.old)) }
@@ -75,13 +66,7 @@ pub extern "C" fn optrecords_to_ol(
 }
 
 // Writes a file as `OM`. Returns the number of the answer, and stores how many bytes there are and the place.
-#[unsafe(no_mangle)]
-pub extern "C" fn optrecords_to_om(
-    file: &[u8],
-    out: &mut [u8],
-    count: &mut usize,
-    place: &mut usize,
-) -> u8
+pub fn optrecords_to_om(file: &[u8], out: &mut [u8], count: &mut usize, place: &mut usize) -> u8
     ensures number { result ≡ reply_number (turned_reply (turned_to Om file.now out.old)) }
     ensures count { count.new ≡ reply_count (turned_reply (turned_to Om file.now out.old)) }
     ensures place { place.new ≡ reply_place (turned_reply (turned_to Om file.now out.old)) }

@@ -93,4 +93,4 @@ returns c =
     o.ensures.memory.0
     (o.ensures.records ∙ ap (λ (F : Form). out_after o.result (tidied_origins F g.mode g.text.now) g.orig.now) e)
     o.ensures.memory.1 in
-    record { number = whole.0; size = whole.1.0; place = whole.1.1.0; result = whole.1.1.1.0; records = whole.1.1.1.1.0; work = whole.1.1.1.1.1.0; number = whole.1.1.1.1.1.1.0; size = whole.1.1.1.1.1.1.1.0; place = whole.1.1.1.1.1.1.1.1.0; result = whole.1.1.1.1.1.1.1.1.1.0; records = whole.1.1.1.1.1.1.1.1.1.1.0; work = whole.1.1.1.1.1.1.1.1.1.1.1 }
+    record { number = whole.0; size = whole.1.0; place = whole.1.1.0; result = whole.1.1.1.0; records = whole.1.1.1.1.0; work = whole.1.1.1.1.1 }
