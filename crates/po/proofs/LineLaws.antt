@@ -10,7 +10,7 @@ use lib.Dec.{eqb, leb}
 use lib.ListN.{length, take, drop, get_or, length-drop, length-take, drop_of_length-le}
 use lib.Seq.{drop-drop}
 use Rattle.lines.specs.Lf.{part, same, prefixed}
-use Rattle.lines.proofs.Tests.{no, and_left, and_right, and-false, and-true}
+use Rattle.lines.proofs.Tests.{no, and_left, and-false, and-true}
 use Rattle.lines.proofs.LfLaws.{rest_of}
 use Rattle.lines.proofs.Compare.{two_at}
 use Rattle.lexical.proofs.EndLaws.{cons-at}
@@ -18,12 +18,12 @@ use Rattle.text.specs.Utf8Form.{utf8_of}
 use Rattle.names.specs.Names.{decimal, read_number}
 use Rattle.po.specs.declared.Unit.{Unit}
 use Rattle.po.specs.Found.{plain_of, decoded, empty}
-use Rattle.po.specs.Form.{escape, escaped, quoted, ref_word, ref_line}
+use Rattle.po.specs.Form.{escape, escaped, ref_word, ref_line}
 use Rattle.po.specs.Name.{name_run, is_file_name}
-use Rattle.po.specs.Reader.{is_valid, is_quoted_line, quoted_text, colon, value_of, name_in, line_number}
+use Rattle.po.specs.Reader.{is_valid, is_quoted_line, colon, value_of, name_in, line_number}
 use Rattle.po.specs.Inner.Walk.{unit, unit_of}
 use Rattle.po.specs.Inner.ReadWalk.{formed, is_reference, follows}
-use Rattle.po.proofs.UnitLaws.{text-stop, text-on, text-past, escape-self, escaped-cons}
+use Rattle.po.proofs.UnitLaws.{text-stop, text-on, escape-self, escaped-cons}
 
 -- ---- tests that are turned round
 

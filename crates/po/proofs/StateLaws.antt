@@ -7,12 +7,12 @@ use native.Mathlib.Omega.{arith}
 use native.Mathlib.Numerals.{add-one}
 use borrow.Author.Tests.{eq-eqb, ne_eqb, eqb-true, eqb-false, lt-ltb, le-ltb, ltb-true, ltb-false}
 use lib.Dec.{eqb, leb, ltb}
-use lib.ListN.{length, take, drop, get_or, replicate, length-append, length-take, length-drop}
+use lib.ListN.{length, take, drop, replicate, length-append, length-take, length-drop}
 use lib.Seq.{take_at, drop-drop, take-take}
 use Rattle.lines.specs.Lf.{part, same, up_to, parts_of, cut_on, low_bytes}
 use Rattle.lines.specs.Inner.Out.{Wrote, put_at}
 use Rattle.lines.proofs.OutLaws.{Writing, writing_start, writing-as, writing-room, writing-put, writing-end}
-use Rattle.lines.proofs.Tests.{no, or-false, and_left, and_right, and-false}
+use Rattle.lines.proofs.Tests.{no, or-false, and_left, and-false}
 use Rattle.lines.proofs.Counts.{part-short}
 use Rattle.lines.proofs.LfLaws.{parts_at, parts-at-end, rest_of}
 use Rattle.lines.proofs.Compare.{same-eq}

@@ -1,4 +1,3 @@
-use Prim.Native.Nat.{◌-◌}
 use native.Mathlib.Omega.{arith}
 use Rattle.lines.proofs.OutLaws.{writing_start, writing-as, writing-length, writing-room, writing-put, writing-end}
 use Rattle.po.proofs.UnitLaws.{size-in}

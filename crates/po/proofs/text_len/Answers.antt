@@ -1,4 +1,3 @@
-use Prim.Native.Nat.{◌-◌}
 use native.Mathlib.Omega.{arith}
 use Rattle.po.proofs.UnitLaws.{size-in, written-le}
 use Rattle.po.proofs.TextLaws.{length-stop, length-on, length-past}

@@ -1,5 +1,5 @@
 -- For the inner functions: the literals from a place on, with a digest of the text left so far; a literal unit by unit. Assumes nothing.
-use Rattle.std.specs.Prelude.{ℕ, zero, suc, ◌+◌, ◌-◌, ◌≤◌, ◌<◌, ◌≡◌, Bool, true, false, cond, not, ◌&&◌, ◌||◌, List, [], ◌∷◌, ◌++◌, length, drop, get_or, eqb, ltb}
+use Rattle.std.specs.Prelude.{ℕ, zero, suc, ◌+◌, ◌-◌, ◌≤◌, ◌<◌, ◌≡◌, Bool, true, cond, not, ◌&&◌, ◌||◌, List, [], ◌∷◌, ◌++◌, length, drop, get_or, eqb, ltb}
 use Prim.Native.Char.{code}
 use Rattle.lines.specs.Lf.{part, lines_of, unlines}
 use Rattle.names.specs.Names.{decimal}

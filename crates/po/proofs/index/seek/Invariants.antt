@@ -3,7 +3,6 @@ use mathlib.Core.Path.{◌≡◌}
 use lib.ListN.{length, drop}
 use Rattle.po.specs.Found.{decoded}
 use Rattle.po.specs.Inner.Index.{seek_go, seek_of}
-use Rattle.po.specs.declared.Seek.TheVariants as sought
 use Rattle.po.proofs.index.seek.Given as goal
 
 abbrev pub invariant-loop-i : goal.invariant-loop-i

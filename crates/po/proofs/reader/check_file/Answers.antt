@@ -1,8 +1,6 @@
-use Prim.Native.Nat.{◌-◌}
 use native.Mathlib.Omega.{arith}
 use mathlib.Core.Path.{refl, sym, ◌∙◌}
 use lib.ListN.{length}
-use Rattle.po.proofs.LineLaws.{denied, granted}
 use Rattle.po.proofs.StateLaws.{check-start, check-bad, check-room, check-on, end-awaits, end_rest, end-good, ids-none, ids-on}
 use Rattle.po.proofs.reader.check_file.Goals as goal
 

@@ -1,5 +1,3 @@
-use Rattle.po.proofs.LineLaws.{denied, granted}
-use Prim.Native.Nat.{◌-◌}
 use native.Mathlib.Omega.{arith}
 use mathlib.Core.Path.{sym, ◌∙◌}
 use Rattle.po.proofs.UnitLaws.{size-in}

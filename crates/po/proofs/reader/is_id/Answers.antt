@@ -1,6 +1,5 @@
 use mathlib.Core.Path.{sym, ◌∙◌}
 use Rattle.lines.proofs.Tests.{no}
-use Rattle.po.proofs.LineLaws.{denied, granted}
 use Rattle.po.specs.Inner.ReadWalk.{state_at}
 use Rattle.po.proofs.StateLaws.{id-no-form, id-empty, id-by, ids-text}
 use Rattle.po.proofs.reader.is_id.Goals as goal

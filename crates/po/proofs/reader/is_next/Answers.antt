@@ -1,4 +1,3 @@
-use Rattle.po.proofs.LineLaws.{denied, granted}
 use native.Mathlib.Omega.{arith}
 use lib.ListN.{length}
 use Rattle.po.proofs.LineLaws.{next-no, next-by, colon-le}

@@ -1,4 +1,3 @@
-use Rattle.po.proofs.LineLaws.{denied, granted}
 use mathlib.Core.Path.{sym, ◌∙◌}
 use Rattle.po.proofs.LineLaws.{quoted-no-word, quoted-no-form, quoted-by}
 use Rattle.po.proofs.reader.is_quoted.Goals as goal

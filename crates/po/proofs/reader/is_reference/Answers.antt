@@ -1,4 +1,3 @@
-use Rattle.po.proofs.LineLaws.{denied, granted}
 use native.Mathlib.Omega.{arith}
 use mathlib.Core.Path.{sym, ◌∙◌}
 use lib.ListN.{length}

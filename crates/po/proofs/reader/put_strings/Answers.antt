@@ -1,4 +1,3 @@
-use Prim.Native.Nat.{◌-◌}
 use native.Mathlib.Omega.{arith}
 use Rattle.lines.proofs.OutLaws.{wrote-length}
 use Rattle.po.proofs.StateLaws.{given-start, given-room, given-step, last-room, given-end}
