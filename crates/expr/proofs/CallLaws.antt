@@ -22,7 +22,6 @@ use Rattle.expr.specs.Fix.{deep, fix}
 use Rattle.expr.specs.Quotes.{cut_go, strip_quoted, is_closed, call_go, holds_call}
 use Rattle.expr.specs.Pure.{is_space, space_start, unless_blank, space_end, space_trim, is_word, starts_number, is_number_byte, wrapped, shape_of, inner, openings, closings, elements, is_pure, pure_by, judge, cut_rule, purity_in}
 use Rattle.expr.specs.Inner.Pure.{purity_cut}
-use Rattle.expr.specs.declared.kinds.Shape.{Shape}
 use Rattle.expr.specs.declared.kinds.Shape.TheVariants.{Plain, Array}
 use Rattle.expr.specs.declared.kinds.Purity.{Purity}
 use Rattle.expr.specs.declared.kinds.Purity.TheVariants.{Stable, Ident, Effectful}

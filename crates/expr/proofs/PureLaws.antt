@@ -1,6 +1,6 @@
 -- Laws of purity: it is its rule with itself inside it, and cutting once is cutting at each level. Assumes nothing.
-use Prim.Native.Nat.{ℕ, suc, ◌+◌, ◌-◌, ◌≤◌, ◌<◌}
-use mathlib.Core.Path.{◌≡◌, refl, ap, ◌∙◌}
+use Prim.Native.Nat.{ℕ, ◌+◌, ◌-◌, ◌≤◌, ◌<◌}
+use mathlib.Core.Path.{◌≡◌, refl, ap}
 use mathlib.Core.Bool.{Bool, true, false, cond, ◌&&◌}
 use mathlib.Core.List.{List, [], ◌∷◌, ◌++◌}
 use native.Mathlib.Omega.{arith}
@@ -11,7 +11,6 @@ use lib.Seq.{append_snoc}
 use Rattle.lines.specs.Lf.{all, is_empty}
 use Rattle.lines.proofs.Tests.{and_left}
 use Rattle.names.specs.Names.{reg_of, is_ident, is_reg}
-use Rattle.expr.specs.Fix.{fix}
 use Rattle.expr.specs.Inner.Comments.{no_comment}
 use Rattle.expr.specs.Pure.{is_space, space_start, space_end, space_trim, is_word, starts_number, is_number_byte, wrapped, quoted_in, shape_of, inner, openings, closings, elements, is_pure, pure_by, judge, cut_in, cut_rule, purity_rule, purity_in}
 use Rattle.expr.specs.Inner.Pure.{purity_cut}

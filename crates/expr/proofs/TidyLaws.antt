@@ -21,7 +21,6 @@ use Rattle.names.proofs.Texts.{reg-names, ident-names}
 use Rattle.lexical.specs.Lex.{quote_len, quote_shut}
 use Rattle.expr.specs.Quotes.{cut_go, strip_quoted, is_closed}
 use Rattle.expr.specs.Pure.{is_space, space_start, unless_blank, space_end, space_trim, is_word, starts_number, is_number_byte, wrapped, shape_of, inner, openings, closings, elements}
-use Rattle.expr.specs.declared.kinds.Shape.{Shape}
 use Rattle.expr.specs.declared.kinds.Shape.TheVariants.{Plain, Array}
 use Rattle.expr.specs.declared.kinds.Purity.TheVariants.{Effectful}
 use Rattle.expr.proofs.CommentLaws.{prefix-less, pair, second, other}

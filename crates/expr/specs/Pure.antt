@@ -4,8 +4,6 @@ use Prim.Native.Char.{code}
 use Rattle.lines.specs.Ascii.{ascii}
 use Rattle.lines.specs.Lf.{within, among, part, same, all, is_empty}
 use Rattle.names.specs.Names.{is_digit, reg_of, is_ident, is_reg}
-use Rattle.names.specs.declared.RegName.{RegName}
-use Rattle.names.specs.declared.RegName.TheVariants as name
 use Rattle.expr.specs.Fix.{fix}
 use Rattle.expr.specs.Comments.{strip_comments}
 use Rattle.expr.specs.Quotes.{strip_quoted, is_closed}

@@ -1,13 +1,10 @@
 use Prim.Native.Nat.{ℕ, ◌≤◌, ◌<◌, ◌+◌, ◌-◌}
 use mathlib.Core.Path.{◌≡◌, refl, sym, ap, ◌∙◌}
-use mathlib.Core.Bool.{Bool, cond}
 use mathlib.Core.List.{List}
 use native.Mathlib.Omega.{arith}
 use lib.ListN.{length, get_or, length-take, length-drop}
 use Rattle.lines.specs.Lf.{part}
-use Rattle.expr.specs.declared.kinds.Purity.TheVariants.{Stable, Effectful}
 use Rattle.expr.specs.Pure.{is_pure, pure_by, quoted_in}
-use Rattle.expr.specs.Inner.Pure.{purity_cut}
 use Rattle.expr.proofs.PureLaws.{array_long, trim-le}
 use Rattle.expr.proofs.WalkLaws.{walk-comma, walk-stop, walk-byte, walk_end, part_falls, opens-le, closes-le, cut-plain, cut_array}
 use Rattle.expr.proofs.+elements_purity_cut.Goals as goal

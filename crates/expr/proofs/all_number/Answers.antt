@@ -1,7 +1,5 @@
 use mathlib.Core.Path.{sym, ◌∙◌}
-use Prim.Native.Nat.{◌-◌}
 use native.Mathlib.Omega.{arith}
-use Rattle.expr.specs.Pure.{is_number_byte}
 use Rattle.expr.proofs.SpaceLaws.{all-stop, all_more, all_end}
 use Rattle.expr.proofs.all_number.Goals as goal
 

@@ -1,5 +1,4 @@
 use mathlib.Core.Path.{refl, sym, ◌∙◌}
-use Prim.Native.Nat.{◌-◌}
 use native.Mathlib.Omega.{arith}
 use Rattle.expr.proofs.SpaceLaws.{start-stop, start-more, start-end}
 use Rattle.expr.proofs.space_from.Goals as goal

@@ -1,12 +1,8 @@
 use borrow.Author.Rules.{rules}
-use mathlib.Core.Path.{◌≡◌, sym, ◌∙◌}
-use mathlib.Core.Bool.{false}
-use mathlib.Core.List.{◌∷◌}
-use Prim.Native.Nat.{◌+◌, ◌-◌}
+use mathlib.Core.Path.{sym, ◌∙◌}
 use native.Mathlib.Omega.{arith}
-use lib.ListN.{drop, get_or}
 use Rattle.lines.proofs.OutLaws.{writing_start, writing-as, writing-length, writing-end}
-use Rattle.expr.specs.Comments.{strip, strip_comments}
+use Rattle.expr.specs.Comments.{strip_comments}
 use Rattle.expr.proofs.CommentLaws.{two_fits, at-close, at-skip, at_open, at-line, at_copy, at-end, byte-room, byte_put}
 use Rattle.expr.proofs.strip_each.Goals as goal
 

@@ -1,11 +1,7 @@
-use mathlib.Core.Path.{◌≡◌, sym, ◌∙◌}
-use mathlib.Core.Bool.{false}
-use mathlib.Core.List.{◌∷◌}
-use Prim.Native.Nat.{◌+◌, ◌-◌}
+use mathlib.Core.Path.{sym, ◌∙◌}
 use native.Mathlib.Omega.{arith}
-use lib.ListN.{drop, get_or}
 use Rattle.lines.proofs.OutLaws.{writing_start, writing-as, writing-length, writing-end}
-use Rattle.expr.specs.Quotes.{cut_go, strip_quoted}
+use Rattle.expr.specs.Quotes.{strip_quoted}
 use Rattle.expr.proofs.CommentLaws.{two_fits, byte-room, byte_put}
 use Rattle.expr.proofs.QuoteLaws.{at-close, at-skip, at_open, at-line, at_copy, at-end, quote-to, literal-room, literal-put}
 use Rattle.expr.proofs.strip_quoted.Goals as goal
