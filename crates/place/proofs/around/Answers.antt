@@ -5,7 +5,7 @@ pub returns-then-c-eq0 : goal.returns-then-c-eq0
 returns-then-c-eq0 c = around-none c.args.c _ c.if-c-eq0.true
 
 pub returns-then-k-n : goal.returns-then-k-n
-returns-then-k-n c = let a = c.before.before.before.before.before in around-known a.args.c c.wide-k.result a.args.n a.args.up.now c.if-c-eq0.false c.wide-k.ensures c.if-k-n.true
+returns-then-k-n c = around-known c.args.c c.wide-k.result c.args.n c.args.up.now c.if-c-eq0.false c.wide-k.ensures c.if-k-n.true
 
 pub returns : goal.returns
-returns c = let a = c.before.before.before.before in around-unknown a.args.c c.wide-k.result a.args.n a.args.up.now c.if-c-eq0.false c.wide-k.ensures c.if-k-n.false
+returns c = around-unknown c.args.c c.wide-k.result c.args.n c.args.up.now c.if-c-eq0.false c.wide-k.ensures c.if-k-n.false

@@ -7,7 +7,7 @@ use Rattle.place.proofs.Flats.{paths-start, paths-on, paths-all}
 use Rattle.place.proofs.block_paths.Goals as goal
 
 pub loop-i-init : goal.loop-i-init
-loop-i-init c = let a = c.before.before.before.before in paths-start a.args.text.now a.args.table.now a.args.up.now a.args.ends.now a.requires.0 a.requires.1.0 a.requires.1.1
+loop-i-init c = paths-start c.args.text.now c.args.table.now c.args.up.now c.args.ends.now c.requires.0 c.requires.1.0 c.requires.1.1
 
 pub slice_bounds-path_line-count : goal.slice_bounds-path_line-count
 slice_bounds-path_line-count c = omega (arith, c.find_byte-e.ensures)

@@ -11,6 +11,5 @@ wipe-requires c =
 
 pub returns : goal.returns
 returns c =
-    let w = c.before.before.before in
-    let e = w.before.before.find-loop.ensures in
-    quiet-filled w.before.before.before.before.before.args.text.now (sym w.before.if1.false ∙ e.0) e.1 c.wipe.ensures
+    let e = c.find_loop-x.ensures in
+    quiet-filled c.args.text.now (sym c.if-x.false ∙ e.0) e.1 c.wipe.ensures

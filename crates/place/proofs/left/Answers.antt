@@ -7,15 +7,15 @@ use Rattle.place.proofs.left.Goals as goal
 
 pub brace-requires : goal.brace-requires
 unfolding braces
-brace-requires c = let a = c.before.before.before.before in room_as (ap (λ (k : Kind). braces (leaves k a.args.b)) c.enum_told-1.given.1) a.requires
+brace-requires c = room_as (ap (λ (k : Kind). braces (leaves k c.args.b)) c.in-Kept.is) c.requires
 
 pub returns-in-Kept : goal.returns-in-Kept
 unfolding braces
-returns-in-Kept c = let a = c.before.before.before.before.before.before.before in moved_as (ap (λ (k : Kind). braces (leaves k a.args.b)) (sym c.enum_told-1.given.1)) c.brace.ensures
+returns-in-Kept c = moved_as (ap (λ (k : Kind). braces (leaves k c.args.b)) (sym c.in-Kept.is)) c.brace.ensures
 
 pub returns-in-Literal : goal.returns-in-Literal
-returns-in-Literal c = let a = c.before.before.before in moved_as (ap (λ (k : Kind). braces (leaves k a.args.b)) (sym c.enum_told-in-Literal-1.given.1)) (left-literal a.args.c a.args.up.now a.args.n a.requires.known)
+returns-in-Literal c = moved_as (ap (λ (k : Kind). braces (leaves k c.args.b)) (sym c.in-Literal.is)) (left-literal c.args.c c.args.up.now c.args.n c.requires.known)
 
 pub returns-in-Gone : goal.returns-in-Gone
 unfolding braces
-returns-in-Gone c = let a = c.before.before.before in moved_as (ap (λ (k : Kind). braces (leaves k a.args.b)) (sym c.enum_told-in-Gone-1.given.1)) (moved_none a.args.c a.args.up.now a.args.n a.requires.known)
+returns-in-Gone c = moved_as (ap (λ (k : Kind). braces (leaves k c.args.b)) (sym c.in-Gone.is)) (moved_none c.args.c c.args.up.now c.args.n c.requires.known)

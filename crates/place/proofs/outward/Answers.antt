@@ -17,4 +17,4 @@ loop-j-preserved c =
     ∙ sym (out-on l.j l.b (take a.args.n a.args.up.now) c.loop-j-test.true) ∙ l.invariant
 
 pub returns : goal.returns
-returns c = let a = c.before.before.before in sym (out-end c.loop-j.j c.loop-j.b (take a.args.n a.args.up.now) c.loop-j-test.false) ∙ c.loop-j.invariant
+returns c = sym (out-end c.loop-j.j c.loop-j.b (take c.args.n c.args.up.now) c.loop-j-test.false) ∙ c.loop-j.invariant

@@ -4,10 +4,10 @@ use Rattle.place.proofs.Flats.{flat_line}
 use Rattle.place.proofs.path_line.Goals as goal
 
 pub returns-then-is_flat : goal.returns-then-is_flat
-returns-then-is_flat c = let a = c.before.before.before.before in flat_line a.args.line.now (sym c.is_flat.ensures ∙ c.if-is_flat.true) a.args.seen a.requires
+returns-then-is_flat c = flat_line c.args.line.now (sym c.is_flat.ensures ∙ c.if-is_flat.true) c.args.seen c.requires
 
 pub path_open-x-requires : goal.path_open-x-requires
-path_open-x-requires c = let a = c.before.before.before.before.before.before.before.before.before in path_room a.args.line.now _ c.trim-t.ensures.0 a.requires c.path_closes.ensures c.outward-b.ensures
+path_open-x-requires c = path_room c.args.line.now _ c.trim-t.ensures.0 c.requires c.path_closes.ensures c.outward-b.ensures
 
 pub returns : goal.returns
 returns c =

@@ -10,4 +10,4 @@ pub returns-then-ends_open : goal.returns-then-ends_open
 returns-then-ends_open c = moved_as (sym (open-yes c.args.t.now (sym c.ends_open.ensures ∙ c.if-ends_open.true))) c.enter.ensures
 
 pub returns : goal.returns
-returns c = let a = c.before.before.before.before in moved_as (sym (open_no a.args.t.now (sym c.ends_open.ensures ∙ c.if-ends_open.false))) (moved_none a.args.c a.args.up.now a.args.n a.requires.known)
+returns c = moved_as (sym (open_no c.args.t.now (sym c.ends_open.ensures ∙ c.if-ends_open.false))) (moved_none c.args.c c.args.up.now c.args.n c.requires.known)

@@ -7,7 +7,7 @@ pub front_tail-tail-requires : goal.front_tail-tail-requires
 front_tail-tail-requires c = tt
 
 pub loop-i-init : goal.loop-i-init
-loop-i-init c = let a = c.before.before.before in walk-front a.args.line.now a.args.block a.args.up.now a.args.n a.args.k a.requires.1 a.requires.0 c.front_tail-tail.ensures
+loop-i-init c = walk-front c.args.line.now c.args.block c.args.up.now c.args.n c.args.k c.requires.1 c.requires.0 c.front_tail-tail.ensures
 
 pub step_at-step-requires : goal.step_at-step-requires
 step_at-step-requires c = tt
