@@ -3,4 +3,4 @@ use Rattle.reading.specs.Uses.{stores_by}
 use Rattle.reading.proofs.stores_in.Goals as goal
 
 pub returns-in-Store : goal.returns-in-Store
-returns-in-Store c = sym (ap (stores_by c.args.reg.0) c.p-1.given.1)
+returns-in-Store c = sym (ap (stores_by c.args.reg.0) c.in-Store.is)
