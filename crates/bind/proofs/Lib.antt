@@ -9,6 +9,4 @@ pub mod Cut
 pub mod Passes
 pub mod Examples
 pub mod Modes
-pub mod Of_walk_lines
-pub mod Of_walk_window
 pub mod Moves

@@ -23,5 +23,3 @@ pub mod Downs
 pub mod Lasts
 pub mod Notes
 pub mod Rows
-pub mod Of_rebuild_lines
-pub mod Of_rebuild_window

@@ -1,10 +1,5 @@
 pub mod Columns
 pub mod Down
-pub mod Elem
 pub mod Laws
-pub mod Of_fill
-pub mod Of_get
-pub mod Of_put
-pub mod Of_refill
 pub mod Shown
 pub mod Filled

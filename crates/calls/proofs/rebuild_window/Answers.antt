@@ -3,8 +3,6 @@ use native.Mathlib.Omega.{arith}
 use lib.ListN.{length}
 use Rattle.calls.proofs.rebuild_window.Goals as goal
 
-mod Lts
-mod Tie
 
 pub window-recs-requires : goal.window-recs-requires
 window-recs-requires c = tt

@@ -6,8 +6,6 @@ use Rattle.records.specs.Inner.Records.{start_below}
 use Rattle.records.proofs.Shown.{window-start, window-done, window-lt, window_on, window-end}
 use Rattle.records.proofs.fill.Goals as goal
 
-mod Lts
-mod Tie
 
 pub overflow_sub-n : goal.overflow_sub-n
 overflow_sub-n c = omega (arith, c.requires.0.0)

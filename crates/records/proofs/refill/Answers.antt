@@ -4,8 +4,6 @@ use native.Mathlib.Omega.{arith}
 use borrow.Author.Tests.{lt-ltb, le-ltb}
 use Rattle.records.proofs.refill.Goals as goal
 
-mod Lts
-mod Tie
 
 pub returns-then-k-past : goal.returns-then-k-past
 returns-then-k-past c =
@@ -19,9 +17,9 @@ pub overflow_add-result : goal.overflow_add-result
 overflow_add-result c = let p = c.requires in omega (arith, p.0.0, p.0.1.0, c.if-k-past.false, c.fill.auto)
 
 pub shape_of-recs : goal.shape_of-recs
-shape_of-recs c = c.fill.auto.1.1.1.1.0
+shape_of-recs c = c.fill.auto.recs
 
 pub returns : goal.returns
 returns c =
     let a = c.args in
-    record { place = rw (le-ltb a.k a.past c.if-k-past.false) (ap (λ (x : ℕ). a.past + x) c.fill.auto.1.1.1.1.0); records = rw (le-ltb a.k a.past c.if-k-past.false) c.fill.ensures }
+    record { place = rw (le-ltb a.k a.past c.if-k-past.false) (ap (λ (x : ℕ). a.past + x) c.fill.auto.recs); records = rw (le-ltb a.k a.past c.if-k-past.false) c.fill.ensures }
