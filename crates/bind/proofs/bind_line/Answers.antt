@@ -7,7 +7,7 @@ pub bind_site-p-requires : goal.bind_site-p-requires
 bind_site-p-requires c = c.requires
 
 pub bounds-marks-row : goal.bounds-marks-row
-bounds-marks-row c = omega (arith, c.requires.1.0, c.bind_site-p.auto.1.1.1.1.1.1.1.0)
+bounds-marks-row c = omega (arith, c.requires.1.0, c.bind_site-p.auto.marks)
 
 pub returns-then-p-o : goal.returns-then-p-o
 returns-then-p-o c =

@@ -5,8 +5,8 @@ use Rattle.bind.proofs.is_left.Goals as goal
 
 pub returns-in-Reg : goal.returns-in-Reg
 returns-in-Reg c = let a = c.args in
-    ap not c.told.ensures ∙ sym (ap (fails (bound_at a.text.now a.s a.blocks.now a.starts.now)) (sym c.reg_name.ensures ∙ c.q-1.given.1))
+    ap not c.told.ensures ∙ sym (ap (fails (bound_at a.text.now a.s a.blocks.now a.starts.now)) (sym c.reg_name.ensures ∙ c.in-Reg.is))
 
 pub returns-in-None : goal.returns-in-None
 returns-in-None c = let a = c.args in
-    sym (ap (fails (bound_at a.text.now a.s a.blocks.now a.starts.now)) (sym c.reg_name.ensures ∙ c.enum_told-1.given.1))
+    sym (ap (fails (bound_at a.text.now a.s a.blocks.now a.starts.now)) (sym c.reg_name.ensures ∙ c.in-None.is))

@@ -11,13 +11,6 @@ use Rattle.bind.specs.Inner.Steps.{bound_at, mark_row, passes, any_pass, noted_a
 use Rattle.bind.proofs.SiteLaws.{pass_on, pass-last, noted-length, noted-on, noted-last}
 use Rattle.bind.proofs.mark_names.Goals as goal
 
-abbrev invariant-loop : tie.invariant-loop
-invariant-loop body text own s blocks starts seen first marks₀ i₀ any₀ marks i any =
-    (i ≤ length body)
-    × ((length marks ≡ length marks₀)
-    × ((noted_all (bound_at text s blocks starts) (mark_row text s) (parts_of 44 (drop i body)) marks ≡ noted_all (bound_at text s blocks starts) (mark_row text s) (parts_of 44 body) marks₀)
-    × (any || any_pass (bound_at text s blocks starts) (parts_of 44 (drop i body)) ≡ any_pass (bound_at text s blocks starts) (parts_of 44 body))))
-
 pub loop-s-init : goal.loop-s-init
 loop-s-init c = (omega arith, (refl, (refl, refl)))
 

@@ -1,5 +1,4 @@
 use native.Mathlib.Omega.{arith}
-use borrow.Author.Tests.{not-true, not-false}
 use Rattle.bind.proofs.CountLaws.{first-none, first-lt, first-other, first_block, first_store}
 use Rattle.bind.proofs.store_first.Goals as goal
 
@@ -13,7 +12,7 @@ returns-then-not-stores_reg c = let a = c.args in
     let f = c.first_use-f in
     let e = c.find_byte-e in
     let u = c.stores_reg in
-    first-other a.reg.0 a.below.now f.result.row f.result.place f.ensures.0 f.ensures.1 a.blocks.now a.starts.now a.row c.if-f-below.false e.result e.ensures c.cut.result.now c.cut.ensures u.result u.ensures (not-true _ c.if-not-stores_reg.true)
+    first-other a.reg.0 a.below.now f.result.row f.result.place f.ensures.0 f.ensures.1 a.blocks.now a.starts.now a.row c.if-f-below.false e.result e.ensures c.cut.result.now c.cut.ensures u.result u.ensures c.if-not-stores_reg.true
 
 pub overflow_add-k : goal.overflow_add-k
 overflow_add-k c = let a = c.args in
@@ -57,4 +56,4 @@ returns c = let a = c.args in
     let f = c.first_use-f in
     let e = c.find_byte-e in
     let u = c.stores_reg in
-    first_store a.reg.0 a.below.now f.result.row f.result.place f.ensures.0 f.ensures.1 a.blocks.now a.starts.now a.row c.if-f-below.false e.result e.ensures c.cut.result.now c.cut.ensures u.result u.ensures (not-false _ c.if-not-stores_reg.false) c.if-blocks-k.false
+    first_store a.reg.0 a.below.now f.result.row f.result.place f.ensures.0 f.ensures.1 a.blocks.now a.starts.now a.row c.if-f-below.false e.result e.ensures c.cut.result.now c.cut.ensures u.result u.ensures c.if-not-stores_reg.false c.if-blocks-k.false

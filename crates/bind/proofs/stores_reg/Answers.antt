@@ -5,12 +5,12 @@ use Rattle.bind.proofs.stores_reg.Goals as goal
 
 pub returns-in-Decl : goal.returns-in-Decl
 returns-in-Decl c = let a = c.args in
-    sym (ap (stores_by a.reg.0) c.enum_told-1.given.1) ∙ stores-of a.reg.0 a.line.now c.parse.result c.parse.ensures
+    sym (ap (stores_by a.reg.0) c.in-Decl.is) ∙ stores-of a.reg.0 a.line.now c.parse.result c.parse.ensures
 
 pub returns-in-Store : goal.returns-in-Store
 returns-in-Store c = let a = c.args in
-    sym (ap (stores_by a.reg.0) c.s-1.given.1) ∙ stores-of a.reg.0 a.line.now c.parse.result c.parse.ensures
+    sym (ap (stores_by a.reg.0) c.in-Store.is) ∙ stores-of a.reg.0 a.line.now c.parse.result c.parse.ensures
 
 pub returns-in-Other : goal.returns-in-Other
 returns-in-Other c = let a = c.args in
-    sym (ap (stores_by a.reg.0) c.enum_told-in-Other-1.given.1) ∙ stores-of a.reg.0 a.line.now c.parse.result c.parse.ensures
+    sym (ap (stores_by a.reg.0) c.in-Other.is) ∙ stores-of a.reg.0 a.line.now c.parse.result c.parse.ensures

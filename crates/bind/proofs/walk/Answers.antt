@@ -34,8 +34,8 @@ returns c =
       (
         w.ensures.memory,
         (
-          zeros-again h (length c.args.seen.now) w.new.1.1.1.1.1.1.0 c.wipe.ensures.0 (length_front _ w.new.1.1.1.1.1.1.0 h w.auto.1.1.1.1.1.1.0) c.wipe-2.ensures.0,
-          zeros-again h (length c.args.first.now) w.new.1.1.1.1.1.1.1.0 c.wipe.ensures.1 (length_front _ w.new.1.1.1.1.1.1.1.0 h w.auto.1.1.1.1.1.1.1.0) c.wipe-2.ensures.1,
+          zeros-again h (length c.args.seen.now) w.new.seen c.wipe.ensures.0 (length_front _ w.new.seen h w.auto.seen) c.wipe-2.ensures.0,
+          zeros-again h (length c.args.first.now) w.new.first c.wipe.ensures.1 (length_front _ w.new.first h w.auto.first) c.wipe-2.ensures.1,
         ),
       ),
     ) in

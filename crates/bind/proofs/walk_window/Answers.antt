@@ -14,16 +14,16 @@ pub walk_lines-requires : goal.walk_lines-requires
 walk_lines-requires c = let e = ap length c.window-recs.ensures in (omega (arith, e), c.requires)
 
 pub shape_of-seen : goal.shape_of-seen
-shape_of-seen c = c.walk_lines.auto.1.1.1.1.1.1.0
+shape_of-seen c = c.walk_lines.auto.seen
 
 pub shape_of-first : goal.shape_of-first
-shape_of-first c = c.walk_lines.auto.1.1.1.1.1.1.1.0
+shape_of-first c = c.walk_lines.auto.first
 
 pub shape_of-marks : goal.shape_of-marks
-shape_of-marks c = c.walk_lines.auto.1.1.1.1.1.1.1.1.0
+shape_of-marks c = c.walk_lines.auto.marks
 
 pub shape_of-out : goal.shape_of-out
-shape_of-out c = c.walk_lines.auto.1.1.1.1.1.1.1.1.1.0
+shape_of-out c = c.walk_lines.auto.out
 
 pub returns : goal.returns
 returns c =

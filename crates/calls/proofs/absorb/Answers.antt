@@ -21,10 +21,10 @@ pub breaks_above-requires : goal.breaks_above-requires
 breaks_above-requires c = omega (arith, c.requires.0)
 
 pub returns-then-breaks_above : goal.returns-then-breaks_above
-returns-then-breaks_above c = let a = c.args in as-end c.breaks_above.auto.1.1.1.0 (absorb-breaks plain a.line.now a.reg.0 a.value.now (lines_of a.below.now) (lines_of a.taken.now) a.owner.now _ c.use_of-u.ensures.0 c.if-u-ne1.false _ c.is_read.ensures c.if-is_read.false _ c.breaks_above.ensures c.if-breaks_above.true)
+returns-then-breaks_above c = let a = c.args in as-end c.breaks_above.auto.out (absorb-breaks plain a.line.now a.reg.0 a.value.now (lines_of a.below.now) (lines_of a.taken.now) a.owner.now _ c.use_of-u.ensures.0 c.if-u-ne1.false _ c.is_read.ensures c.if-is_read.false _ c.breaks_above.ensures c.if-breaks_above.true)
 
 pub put_in-requires : goal.put_in-requires
-put_in-requires c = omega (arith, c.requires.0, c.breaks_above.auto.1.1.1.0)
+put_in-requires c = omega (arith, c.requires.0, c.breaks_above.auto.out)
 
 pub returns : goal.returns
-returns c = let a = c.args in put_step (absorb-puts plain a.line.now a.reg.0 a.value.now (lines_of a.below.now) (lines_of a.taken.now) a.owner.now _ c.use_of-u.ensures.0 c.if-u-ne1.false _ c.is_read.ensures c.if-is_read.false _ c.breaks_above.ensures c.if-breaks_above.false) (put-after c.breaks_above.auto.1.1.1.0 c.put_in.ensures)
+returns c = let a = c.args in put_step (absorb-puts plain a.line.now a.reg.0 a.value.now (lines_of a.below.now) (lines_of a.taken.now) a.owner.now _ c.use_of-u.ensures.0 c.if-u-ne1.false _ c.is_read.ensures c.if-is_read.false _ c.breaks_above.ensures c.if-breaks_above.false) (put-after c.breaks_above.auto.out c.put_in.ensures)

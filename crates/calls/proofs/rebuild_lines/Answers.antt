@@ -30,7 +30,7 @@ pub loop-n-smaller : goal.loop-n-smaller
 loop-n-smaller c = omega (arith, c.loop-n-test.true)
 
 pub loop-n-preserved : goal.loop-n-preserved
-loop-n-preserved c = let f = c.turn_line-o in viewed-on c.loop-n.invariant c.requires.1.1.1.1.1.1.0 c.loop-n-test.true c.refill-past.ensures.place c.refill-past.ensures.records c.get-rec.ensures f.ensures f.auto.1.1.1.1.1.1.1.0 f.auto.1.1.1.1.1.1.1.1.0 f.auto.1.1.1.1.1.1.1.1.1.1.0 f.auto.1.1.1.1.1.1.1.1.1.1.1.0
+loop-n-preserved c = let f = c.turn_line-o in viewed-on c.loop-n.invariant c.requires.1.1.1.1.1.1.0 c.loop-n-test.true c.refill-past.ensures.place c.refill-past.ensures.records c.get-rec.ensures f.ensures f.auto.owner f.auto.stack f.auto.cur f.auto.next
 
 pub shape_of-owner : goal.shape_of-owner
 shape_of-owner c = c.loop-n.invariant.lined.passes.same-owner

@@ -4,10 +4,10 @@ use Rattle.calls.proofs.Notes.{stored-as}
 use Rattle.calls.proofs.stores.Goals as goal
 
 pub returns-in-Decl : goal.returns-in-Decl
-returns-in-Decl c = stored-as c.args.line.now line.Decl (sym c.enum_told-1.given.1 ∙ c.parse.ensures) c.args.reg.0
+returns-in-Decl c = stored-as c.args.line.now line.Decl (sym c.in-Decl.is ∙ c.parse.ensures) c.args.reg.0
 
 pub returns-in-Store : goal.returns-in-Store
-returns-in-Store c = stored-as c.args.line.now (line.Store c.s-1.given.0.0) (sym c.s-1.given.1 ∙ c.parse.ensures) c.args.reg.0
+returns-in-Store c = stored-as c.args.line.now (line.Store c.in-Store.s) (sym c.in-Store.is ∙ c.parse.ensures) c.args.reg.0
 
 pub returns-in-Other : goal.returns-in-Other
-returns-in-Other c = stored-as c.args.line.now line.Other (sym c.enum_told-in-Other-1.given.1 ∙ c.parse.ensures) c.args.reg.0
+returns-in-Other c = stored-as c.args.line.now line.Other (sym c.in-Other.is ∙ c.parse.ensures) c.args.reg.0

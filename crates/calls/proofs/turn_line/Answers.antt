@@ -1,6 +1,5 @@
 use native.Mathlib.Omega.{arith}
 use mathlib.Core.Path.{ap, ◌∙◌}
-use borrow.Author.Tests.{not-true, not-false}
 use lib.ListN.{length, length-set}
 use Rattle.lines.specs.Lf.{part}
 use Rattle.lines.proofs.OutLaws.{wrote-length, wrote_as}
@@ -47,7 +46,7 @@ pub shape_of-stack-then-not-takes : goal.shape_of-stack-then-not-takes
 shape_of-stack-then-not-takes c = wrote-length c.put_line.ensures
 
 pub returns-then-not-takes : goal.returns-then-not-takes
-returns-then-not-takes c = turn-plain c.requires.0 _ c.takes.ensures (not-true _ c.if-not-takes.true) (wrote_as (line-is _) c.put_line.ensures)
+returns-then-not-takes c = turn-plain c.requires.0 _ c.takes.ensures c.if-not-takes.true (wrote_as (line-is _) c.put_line.ensures)
 
 pub slice_bounds-put-count : goal.slice_bounds-put-count
 slice_bounds-put-count c = end_after c.requires.0
@@ -86,16 +85,16 @@ pub put_line-requires-2 : goal.put_line-requires-2
 put_line-requires-2 c = omega (arith, made-room c.requires.0 c.put-size.ensures _ c.is_header-top.ensures c.walk_up-w.ensures _ c.cut.ensures, ap length (line-is c.cut.result.now))
 
 pub shape_of-owner : goal.shape_of-owner
-shape_of-owner c = c.walk_up-w.auto.1.1.1.1.1.1.1.0 ∙ length-set c.args.owner.now c.args.n 0
+shape_of-owner c = c.walk_up-w.auto.owner ∙ length-set c.args.owner.now c.args.n 0
 
 pub shape_of-stack : goal.shape_of-stack
 shape_of-stack c = wrote-length c.put_line-2.ensures
 
 pub shape_of-cur : goal.shape_of-cur
-shape_of-cur c = c.walk_up-w.auto.1.1.1.1.1.1.1.1.1.1.1.1.0 ∙ wrote-length c.put-size.ensures
+shape_of-cur c = c.walk_up-w.auto.cur ∙ wrote-length c.put-size.ensures
 
 pub shape_of-next : goal.shape_of-next
-shape_of-next c = c.walk_up-w.auto.1.1.1.1.1.1.1.1.1.1.1.1.1.0
+shape_of-next c = c.walk_up-w.auto.next
 
 pub returns : goal.returns
-returns c = turn-walked c.requires.0 c.put-size.ensures _ c.is_header-top.ensures c.walk_up-w.ensures _ c.cut.ensures (c.walk_up-w.auto.1.1.1.1.1.1.1.0 ∙ length-set c.args.owner.now c.args.n 0) _ c.takes.ensures (not-false _ c.if-not-takes.false) (wrote_as (line-is _) c.put_line-2.ensures)
+returns c = turn-walked c.requires.0 c.put-size.ensures _ c.is_header-top.ensures c.walk_up-w.ensures _ c.cut.ensures (c.walk_up-w.auto.owner ∙ length-set c.args.owner.now c.args.n 0) _ c.takes.ensures c.if-not-takes.false (wrote_as (line-is _) c.put_line-2.ensures)

@@ -1,25 +1,19 @@
 use native.Mathlib.Omega.{arith}
 use Prim.Native.Nat.{ℕ, ◌+◌, ◌-◌}
 use mathlib.Core.List.{List}
-use mathlib.Core.Logic.{◌⊎◌, ⊎_elim}
-use denote.Enum.Declared.{tag_of}
 use Rattle.parse.specs.declared.Line.{Line}
+use Rattle.parse.specs.declared.Store.{Store}
 use Rattle.parse.specs.declared.Line.TheVariants as line
 use Rattle.calls.specs.Leaves.{other}
 use mathlib.Core.Path.{◌≡◌, refl, sym, ap, ◌∙◌}
-use borrow.Author.Tests.{not-true, not-false}
 use Rattle.lines.specs.Lf.{part}
 use Rattle.calls.specs.LeavesOf.{parsed_by}
 use Rattle.calls.proofs.Climbs.{put-out, Climb, climb-start, climb-in, climb-out, row-some, step-some, turn_in, owner-in, blocks-in, text-some, ours-room, drop-end, drop-on, stack_some, other-end, may-end, absorb-room, noted_here, none_end, new-room, absorb-on}
 use Rattle.calls.proofs.walk_up.Goals as goal
 
-abbrev invariant-loop : tie.invariant-loop
-invariant-loop text i below n blocks starts notes owner₀ stack o top size cur₀ next₀ k₀ p₀ h₀ c₀ over₀ steps₀ owner cur next k p h c over steps =
-    Climb text n i below blocks starts owner₀ stack (o + size) cur₀ next₀ owner cur next k p h c over steps
-
-no_store : (w : List ℕ) (p : Line) → (tag_of Rattle.parse.specs.contracts.Line.the_type p ≡ 0) ⊎ (tag_of Rattle.parse.specs.contracts.Line.the_type p ≡ 2) → parsed_by w p ≡ other
+no_store : (w : List ℕ) (p : Line) → ((x : Store) → p ≡ line.Store x → ⊥) → parsed_by w p ≡ other
 no_store w line.Decl e = refl
-no_store w (line.Store s) e = ⊎_elim (λ q. absurd (omega (arith, q))) (λ q. absurd (omega (arith, q))) e
+no_store w (line.Store s) e = absurd (e s refl)
 no_store w line.Other e = refl
 
 pub loop-k-init : goal.loop-k-init
@@ -65,7 +59,7 @@ pub loop-k-smaller-then-owner-k-ne0 : goal.loop-k-smaller-then-owner-k-ne0
 loop-k-smaller-then-owner-k-ne0 c = omega (arith, step-some (climb-in c.loop-k.invariant c.loop-k-test.true))
 
 pub loop-k-preserved-then-owner-k-ne0 : goal.loop-k-preserved-then-owner-k-ne0
-loop-k-preserved-then-owner-k-ne0 c = drop-on (climb-in c.loop-k.invariant c.loop-k-test.true) c.if-owner-k-ne0.true _ c.line_start-q.ensures _ c.is_ours.ensures (not-false _ c.if-not-is_ours.false) _ c.cut.ensures _ c.is_header-over.ensures
+loop-k-preserved-then-owner-k-ne0 c = drop-on (climb-in c.loop-k.invariant c.loop-k-test.true) c.if-owner-k-ne0.true _ c.line_start-q.ensures _ c.is_ours.ensures c.if-not-is_ours.false _ c.cut.ensures _ c.is_header-over.ensures
 
 pub overflow_sub-h : goal.overflow_sub-h
 overflow_sub-h c = stack_some (climb-in c.loop-k.invariant c.loop-k-test.true) c.if-owner-k-ne0.false
@@ -122,13 +116,13 @@ pub slice_bounds-absorb-end : goal.slice_bounds-absorb-end
 slice_bounds-absorb-end c = omega (arith, c.loop-k.invariant.same-owner, c.loop-k.invariant.ground.n-owner)
 
 pub absorb-made-requires : goal.absorb-made-requires
-absorb-made-requires c = (absorb-room (climb-in c.loop-k.invariant c.loop-k-test.true) c.if-owner-k-ne0.false _ c.line_start-b.ensures _ c.cut-x.ensures c.read-1.given.0.0 (sym c.parse-read.ensures ∙ c.read-1.given.1) _ c.value_of-v.ensures _ c.may_go.ensures (not-false _ c.if-not-may_go.false) _ _ _ c.cut-line.ensures c.cut-under.ensures c.cut-taken.ensures, noted_here (climb-in c.loop-k.invariant c.loop-k-test.true) c.args.notes.now c.read-1.given.0.0.reg.0 c.requires.1.1.1.1.1.1 c.requires.1.0.below _ c.line_start-q.ensures c.cut-above.ensures c.cut-under.ensures)
+absorb-made-requires c = (absorb-room (climb-in c.loop-k.invariant c.loop-k-test.true) c.if-owner-k-ne0.false _ c.line_start-b.ensures _ c.cut-x.ensures c.in-Store.s (sym c.parse-read.ensures ∙ c.in-Store.is) _ c.value_of-v.ensures _ c.may_go.ensures c.if-not-may_go.false _ _ _ c.cut-line.ensures c.cut-under.ensures c.cut-taken.ensures, noted_here (climb-in c.loop-k.invariant c.loop-k-test.true) c.args.notes.now c.in-Store.s.reg.0 c.requires.1.1.1.1.1.1 c.requires.1.0.below _ c.line_start-q.ensures c.cut-above.ensures c.cut-under.ensures)
 
 pub cut-requires-else-owner-k-ne0 : goal.cut-requires-else-owner-k-ne0
 cut-requires-else-owner-k-ne0 c = tt
 
 pub put-c-requires : goal.put-c-requires
-put-c-requires c = new-room (climb-in c.loop-k.invariant c.loop-k-test.true) c.if-owner-k-ne0.false _ c.line_start-b.ensures _ c.cut-x.ensures c.read-1.given.0.0 (sym c.parse-read.ensures ∙ c.read-1.given.1) _ c.value_of-v.ensures _ c.may_go.ensures (not-false _ c.if-not-may_go.false) _ _ _ c.cut-line.ensures c.cut-under.ensures c.cut-taken.ensures c.absorb-made.ensures c.made-1.given.1 _ c.cut-else-owner-k-ne0.ensures
+put-c-requires c = new-room (climb-in c.loop-k.invariant c.loop-k-test.true) c.if-owner-k-ne0.false _ c.line_start-b.ensures _ c.cut-x.ensures c.in-Store.s (sym c.parse-read.ensures ∙ c.in-Store.is) _ c.value_of-v.ensures _ c.may_go.ensures c.if-not-may_go.false _ _ _ c.cut-line.ensures c.cut-under.ensures c.cut-taken.ensures c.absorb-made.ensures c.in-Line.is _ c.cut-else-owner-k-ne0.ensures
 
 pub overflow_sub-owner : goal.overflow_sub-owner
 overflow_sub-owner c = turn_in (climb-in c.loop-k.invariant c.loop-k-test.true)
@@ -155,7 +149,7 @@ pub loop-k-smaller : goal.loop-k-smaller
 loop-k-smaller c = omega (arith, step-some (climb-in c.loop-k.invariant c.loop-k-test.true))
 
 pub loop-k-preserved : goal.loop-k-preserved
-loop-k-preserved c = absorb-on (climb-in c.loop-k.invariant c.loop-k-test.true) c.if-owner-k-ne0.false _ c.line_start-b.ensures _ c.cut-x.ensures c.read-1.given.0.0 (sym c.parse-read.ensures ∙ c.read-1.given.1) _ c.value_of-v.ensures _ c.may_go.ensures (not-false _ c.if-not-may_go.false) _ _ _ c.cut-line.ensures c.cut-under.ensures c.cut-taken.ensures c.absorb-made.ensures c.made-1.given.1 _ c.cut-else-owner-k-ne0.ensures c.put-c.ensures _ c.line_start-q.ensures _ c.cut-above.ensures _ c.is_header-over-else-owner-k-ne0.ensures
+loop-k-preserved c = absorb-on (climb-in c.loop-k.invariant c.loop-k-test.true) c.if-owner-k-ne0.false _ c.line_start-b.ensures _ c.cut-x.ensures c.in-Store.s (sym c.parse-read.ensures ∙ c.in-Store.is) _ c.value_of-v.ensures _ c.may_go.ensures c.if-not-may_go.false _ _ _ c.cut-line.ensures c.cut-under.ensures c.cut-taken.ensures c.absorb-made.ensures c.in-Line.is _ c.cut-else-owner-k-ne0.ensures c.put-c.ensures _ c.line_start-q.ensures _ c.cut-above.ensures _ c.is_header-over-else-owner-k-ne0.ensures
 
 pub shape_of-owner-after-loop-k : goal.shape_of-owner-after-loop-k
 shape_of-owner-after-loop-k c = c.loop-k.invariant.same-owner
@@ -179,7 +173,7 @@ pub shape_of-next-then-not-is_ours : goal.shape_of-next-then-not-is_ours
 shape_of-next-then-not-is_ours c = c.loop-k.invariant.same_next
 
 pub returns-then-not-is_ours : goal.returns-then-not-is_ours
-returns-then-not-is_ours c = drop-end (climb-in c.loop-k.invariant c.loop-k-test.true) c.if-owner-k-ne0.true _ c.is_ours.ensures (not-true _ c.if-not-is_ours.true)
+returns-then-not-is_ours c = drop-end (climb-in c.loop-k.invariant c.loop-k-test.true) c.if-owner-k-ne0.true _ c.is_ours.ensures c.if-not-is_ours.true
 
 pub shape_of-owner-in_default : goal.shape_of-owner-in_default
 shape_of-owner-in_default c = c.loop-k.invariant.same-owner
@@ -191,7 +185,7 @@ pub shape_of-next-in_default : goal.shape_of-next-in_default
 shape_of-next-in_default c = c.loop-k.invariant.same_next
 
 pub returns-in_default : goal.returns-in_default
-returns-in_default c = other-end (climb-in c.loop-k.invariant c.loop-k-test.true) c.if-owner-k-ne0.false _ c.line_start-b.ensures _ c.cut-x.ensures (ap (parsed_by c.cut-x.result.now) (sym c.parse-read.ensures) ∙ no_store c.cut-x.result.now c.parse-read.result c.in-Store.keys2)
+returns-in_default c = other-end (climb-in c.loop-k.invariant c.loop-k-test.true) c.if-owner-k-ne0.false _ c.line_start-b.ensures _ c.cut-x.ensures (ap (parsed_by c.cut-x.result.now) (sym c.parse-read.ensures) ∙ no_store c.cut-x.result.now c.parse-read.result c.in_default.not-Store)
 
 pub shape_of-owner-then-not-may_go : goal.shape_of-owner-then-not-may_go
 shape_of-owner-then-not-may_go c = c.loop-k.invariant.same-owner
@@ -203,7 +197,7 @@ pub shape_of-next-then-not-may_go : goal.shape_of-next-then-not-may_go
 shape_of-next-then-not-may_go c = c.loop-k.invariant.same_next
 
 pub returns-then-not-may_go : goal.returns-then-not-may_go
-returns-then-not-may_go c = may-end (climb-in c.loop-k.invariant c.loop-k-test.true) c.if-owner-k-ne0.false _ c.line_start-b.ensures _ c.cut-x.ensures c.read-1.given.0.0 (sym c.parse-read.ensures ∙ c.read-1.given.1) (part c.read-1.given.0.0.from c.read-1.given.0.0.to c.cut-x.result.now) refl _ c.may_go.ensures (not-true _ c.if-not-may_go.true)
+returns-then-not-may_go c = may-end (climb-in c.loop-k.invariant c.loop-k-test.true) c.if-owner-k-ne0.false _ c.line_start-b.ensures _ c.cut-x.ensures c.in-Store.s (sym c.parse-read.ensures ∙ c.in-Store.is) (part c.in-Store.s.from c.in-Store.s.to c.cut-x.result.now) refl _ c.may_go.ensures c.if-not-may_go.true
 
 pub shape_of-owner-in_default-made : goal.shape_of-owner-in_default-made
 shape_of-owner-in_default-made c = c.loop-k.invariant.same-owner
@@ -215,4 +209,4 @@ pub shape_of-next-in_default-made : goal.shape_of-next-in_default-made
 shape_of-next-in_default-made c = put-out c.absorb-made.ensures ∙ c.loop-k.invariant.same_next
 
 pub returns-in_default-made : goal.returns-in_default-made
-returns-in_default-made c = none_end (climb-in c.loop-k.invariant c.loop-k-test.true) c.if-owner-k-ne0.false _ c.line_start-b.ensures _ c.cut-x.ensures c.read-1.given.0.0 (sym c.parse-read.ensures ∙ c.read-1.given.1) _ c.value_of-v.ensures _ c.may_go.ensures (not-false _ c.if-not-may_go.false) _ _ _ c.cut-line.ensures c.cut-under.ensures c.cut-taken.ensures c.absorb-made.ensures c.enum_told-1.given.1
+returns-in_default-made c = none_end (climb-in c.loop-k.invariant c.loop-k-test.true) c.if-owner-k-ne0.false _ c.line_start-b.ensures _ c.cut-x.ensures c.in-Store.s (sym c.parse-read.ensures ∙ c.in-Store.is) _ c.value_of-v.ensures _ c.may_go.ensures c.if-not-may_go.false _ _ _ c.cut-line.ensures c.cut-under.ensures c.cut-taken.ensures c.absorb-made.ensures c.in_default-made.is

@@ -8,7 +8,7 @@ pub returns-then-byte_at-ne114 : goal.returns-then-byte_at-ne114
 returns-then-byte_at-ne114 c = let a = c.args in no_front a.own.now a.b a.t.now a.first.now _ c.byte_at.ensures c.if-byte_at-ne114.true
 
 pub returns-in-Reg : goal.returns-in-Reg
-returns-in-Reg c = let a = c.args in c.read_reg.ensures ∙ sym (ap (λ (r : RegName). read_name a.own.now a.b r a.first.now) (sym c.reg_name.ensures ∙ c.q-1.given.1))
+returns-in-Reg c = let a = c.args in c.read_reg.ensures ∙ sym (ap (λ (r : RegName). read_name a.own.now a.b r a.first.now) (sym c.reg_name.ensures ∙ c.in-Reg.is))
 
 pub returns-in-None : goal.returns-in-None
-returns-in-None c = let a = c.args in sym (ap (λ (r : RegName). read_name a.own.now a.b r a.first.now) (sym c.reg_name.ensures ∙ c.enum_told-1.given.1))
+returns-in-None c = let a = c.args in sym (ap (λ (r : RegName). read_name a.own.now a.b r a.first.now) (sym c.reg_name.ensures ∙ c.in-None.is))

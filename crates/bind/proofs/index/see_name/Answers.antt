@@ -7,9 +7,9 @@ use Rattle.bind.proofs.index.see_name.Goals as goal
 pub returns-in-Reg : goal.returns-in-Reg
 returns-in-Reg c =
     let a = c.args in
-    record { marked = c.see_reg.ensures.marked ∙ sym (ap (λ (r : RegName). mark_name a.own.now a.m r a.seen.now) (sym c.reg_name.ensures ∙ c.q-1.given.1)); again = c.see_reg.ensures.again ∙ sym (ap (λ (r : RegName). again_name a.own.now a.m a.b r a.seen.now a.first.now) (sym c.reg_name.ensures ∙ c.q-1.given.1)) }
+    record { marked = c.see_reg.ensures.marked ∙ sym (ap (λ (r : RegName). mark_name a.own.now a.m r a.seen.now) (sym c.reg_name.ensures ∙ c.in-Reg.is)); again = c.see_reg.ensures.again ∙ sym (ap (λ (r : RegName). again_name a.own.now a.m a.b r a.seen.now a.first.now) (sym c.reg_name.ensures ∙ c.in-Reg.is)) }
 
 pub returns-in-None : goal.returns-in-None
 returns-in-None c =
     let a = c.args in
-    record { marked = sym (ap (λ (r : RegName). mark_name a.own.now a.m r a.seen.now) (sym c.reg_name.ensures ∙ c.enum_told-1.given.1)); again = sym (ap (λ (r : RegName). again_name a.own.now a.m a.b r a.seen.now a.first.now) (sym c.reg_name.ensures ∙ c.enum_told-1.given.1)) }
+    record { marked = sym (ap (λ (r : RegName). mark_name a.own.now a.m r a.seen.now) (sym c.reg_name.ensures ∙ c.in-None.is)); again = sym (ap (λ (r : RegName). again_name a.own.now a.m a.b r a.seen.now a.first.now) (sym c.reg_name.ensures ∙ c.in-None.is)) }

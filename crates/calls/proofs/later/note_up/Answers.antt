@@ -30,7 +30,7 @@ pub loop-k-smaller : goal.loop-k-smaller
 loop-k-smaller c = omega (arith, c.loop-k-test.true)
 
 pub loop-k-preserved : goal.loop-k-preserved
-loop-k-preserved c = let w = c.requires.1.1.1.0 in let i : c.loop-k.k - 1 < c.args.m = omega (arith, c.loop-k-test.true, c.loop-k.invariant.within, w.count) in let n = c.note_line.ensures in upward-on c.loop-k.invariant (c.loop-k.k - 1) (c.args.m - (c.loop-k.k - 1)) (omega (arith, c.loop-k-test.true)) refl (ap (λ (x : ℕ). x - (c.loop-k.k - 1)) w.count) (line-found w (c.loop-k.k - 1) i refl c.start_at.ensures c.cut-line.ensures) n.0 n.1.0 n.1.1 (c.head_at-h.ensures ∙ head-found w (c.loop-k.k - 1) i refl (c.args.m - (c.loop-k.k - 1)) c.loop-k.h)
+loop-k-preserved c = let w = c.requires.1.1.1.0 in let i : c.loop-k.k - 1 < c.args.m = omega (arith, c.loop-k-test.true, c.loop-k.invariant.within, w.count) in let n = c.note_line.ensures in upward-on c.loop-k.invariant (c.loop-k.k - 1) (c.args.m - (c.loop-k.k - 1)) (omega (arith, c.loop-k-test.true)) refl (ap (λ (x : ℕ). x - (c.loop-k.k - 1)) w.count) (line-found w (c.loop-k.k - 1) i refl c.start_at.ensures c.cut-line.ensures) n.reads n.stores n.notes (c.head_at-h.ensures ∙ head-found w (c.loop-k.k - 1) i refl (c.args.m - (c.loop-k.k - 1)) c.loop-k.h)
 
 pub shape_of-near : goal.shape_of-near
 shape_of-near c = c.loop-k.invariant.same-near
