@@ -1,6 +1,6 @@
 -- What code needs that keeps the standing lines as a stack and one number for each line: its owner's distance, or 0. Assumes nothing.
 use Prim.Native.Nat.{ℕ, zero, suc, ◌+◌, ◌-◌, ◌≤◌, ◌<◌}
-use mathlib.Core.Path.{◌≡◌, refl, sym, ap, ◌∙◌}
+use mathlib.Core.Path.{subst, ◌≡◌, refl, sym, ap, ◌∙◌}
 use mathlib.Core.Bool.{Bool, true, false, cond, not, ◌&&◌, ◌||◌}
 use mathlib.Core.List.{List, [], ◌∷◌, ◌++◌, append_assoc, append-nil}
 use native.Mathlib.Omega.{arith}
@@ -229,9 +229,9 @@ owner_back [] i = 0
 owner_back (r ∷ rs) zero = owner_of r.act
 owner_back (r ∷ rs) (suc i) = owner_back rs i
 
-took-on : {d i x : ℕ} {took : List ℕ} (e : ℕ) → e ≡ d - suc i → eqb (d - suc i) d ≡ false → has (d - suc i) took ≡ eqb x (d - suc i) → has e (d ∷ took) ≡ eqb x e
+took-on : (d i x : ℕ) (took : List ℕ) (e : ℕ) → e ≡ d - suc i → eqb (d - suc i) d ≡ false → has (d - suc i) took ≡ eqb x (d - suc i) → has e (d ∷ took) ≡ eqb x e
 unfolding has
-took-on e p q r = rw p (rw q r)
+took-on d i x took e p q r = subst (λ (m : ℕ). has m (d ∷ took) ≡ eqb x m) (sym p) (rw q r)
 
 pub by-table : {back : List Row} {d : ℕ} {took : List ℕ} {lines : List (List ℕ)} → Passed back d took lines → (i : ℕ) → suc i < d → has (d - suc i) took ≡ eqb (owner_back back i) (d - suc i)
 unfolding owner_back has
@@ -239,4 +239,4 @@ by-table none_yet i l = absurd (omega arith)
 by-table (over-row {done = done} {d = d} {took = took} r n p q k) zero l = rw (less_one d, not_own r n p q k) ((took-low k).1 d (omega arith))
 by-table (over-row {done = done} {d = d} {took = took} r n p q k) (suc i) l = rw (less_two d i) (by-table k i (omega arith))
 by-table (took-row {done = done} {d = d} {took = took} x k) zero l = rw (less_one d, eq-eqb d d refl, into-owner d, eq-eqb d d refl)
-by-table (took-row {done = done} {d = d} {took = took} x k) (suc i) l = took-on (suc d - suc (suc i)) (less_two d i) (ne_eqb (d - suc i) d (λ m. omega (arith, m, (took-low k).0))) (by-table k i (omega arith))
+by-table (took-row {done = done} {d = d} {took = took} x k) (suc i) l = took-on d i (owner_back done i) took (suc d - suc (suc i)) (less_two d i) (ne_eqb (d - suc i) d (λ m. omega (arith, m, (took-low k).0))) (by-table k i (omega arith))

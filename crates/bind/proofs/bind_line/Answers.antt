@@ -13,10 +13,10 @@ pub returns-then-p-o : goal.returns-then-p-o
 returns-then-p-o c =
     let a = c.args in
     let w = c.bind_site-p.ensures in
-    record { answer = w.0; memory = site-gone (bound_at a.text.now a.s a.blocks.now a.starts.now) (mark_row a.text.now a.s) (line_of a.text.now a.s) a.marks.now _ a.s.row a.o _ w.0.place w.1 c.if-p-o.true }
+    record { answer = w.answer; memory = site-gone (bound_at a.text.now a.s a.blocks.now a.starts.now) (mark_row a.text.now a.s) (line_of a.text.now a.s) a.marks.now _ a.s.row a.o _ w.answer.place w.memory c.if-p-o.true }
 
 pub returns : goal.returns
 returns c =
     let a = c.args in
     let w = c.bind_site-p.ensures in
-    record { answer = w.0; memory = site_left (bound_at a.text.now a.s a.blocks.now a.starts.now) (mark_row a.text.now a.s) (line_of a.text.now a.s) a.marks.now _ a.s.row a.o _ w.0.place w.1 c.if-p-o.false }
+    record { answer = w.answer; memory = site_left (bound_at a.text.now a.s a.blocks.now a.starts.now) (mark_row a.text.now a.s) (line_of a.text.now a.s) a.marks.now _ a.s.row a.o _ w.answer.place w.memory c.if-p-o.false }

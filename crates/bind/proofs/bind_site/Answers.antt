@@ -29,4 +29,4 @@ bind_decl-requires c = c.requires
 pub returns : goal.returns
 returns c =
     let whole = c.bind_decl.ensures in
-    record { answer = whole.0; memory = whole.1 }
+    record { answer = whole.answer; memory = whole.memory }

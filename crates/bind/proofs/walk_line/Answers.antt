@@ -8,6 +8,4 @@ pub bind_line-requires : goal.bind_line-requires
 bind_line-requires c = (ready-as _ c.read_region.ensures.marked c.read_region.ensures.again c.requires.1.0, c.requires.1.1)
 
 pub returns : goal.returns
-returns c =
-    let whole = ((c.read_region.ensures.marked, c.read_region.ensures.again), c.bind_line.ensures) in
-    record { index = whole.0; answer = whole.1.0; memory = whole.1.1 }
+returns c = record { index = (c.read_region.ensures.marked, c.read_region.ensures.again); answer = c.bind_line.ensures.answer; memory = c.bind_line.ensures.memory }

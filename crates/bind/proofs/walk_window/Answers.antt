@@ -28,4 +28,4 @@ shape_of-out c = c.walk_lines.auto.out
 pub returns : goal.returns
 returns c =
     let whole = c.walk_lines.ensures in
-    record { answer = whole.0; memory = whole.1 }
+    record { answer = whole.answer; memory = whole.memory }
