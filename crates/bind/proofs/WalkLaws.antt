@@ -655,9 +655,9 @@ module _ {t bs ss m₀ m d₀ d : List ℕ} {top end i k o : ℕ} (h : BindInv t
         go true = set_here here.marks.before (pad_to (length here.more) (next_marks here.spot here.more h.us h.ms) ++ drop (length (lines_of t)) m₀) (cond (marked h.ms) 1 0) 2 k here.marks.count
         go false = refl
 
-    next_marks : {m' : List ℕ} → m' ≡ site_notes (bound_at t site bs ss) (mark_row t site) (line_of t site) k m →
+    marks_next : {m' : List ℕ} → m' ≡ site_notes (bound_at t site bs ss) (mark_row t site) (line_of t site) k m →
         Marks t bs ss m₀ m' here.more (here.spot.line ∷ above_in here.spot h.us) (next_marks here.spot here.more h.us h.ms) (k + 1)
-    next_marks {m'} x = record {
+    marks_next {m'} x = record {
       before = lower;
       count = omega (arith, length-append here.marks.before (note_here here.spot here.more h.us h.ms ∷ []), here.marks.count);
       total = omega (arith, here.marks.total);
@@ -690,7 +690,7 @@ module _ {t bs ss m₀ m d₀ d : List ℕ} {top end i k o : ℕ} (h : BindInv t
       whole = whole-more t top' i e j g.top≤ l q y g.whole;
       ends = next-ends;
       writing = writing-put (writing-as text-is here.writing) v;
-      marks = next_marks x;
+      marks = marks_next x;
     }
 
 -- ---- where the walk begins and ends

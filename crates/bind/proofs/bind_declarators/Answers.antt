@@ -41,5 +41,5 @@ returns c =
     let w = c.walk.ensures in
     let m = c.clear.ensures in
     let n = row_count a.mode.0 a.text.now f in
-    let k = filled-as (tabled-notes a.mode.0 a.text.now f) w.1.0 in
-    record { answer = wrote_as (tabled-text a.mode.0 a.text.now f) w.0; tables = (filled_at n f.0, (filled_at n f.1.0, f.1.1)); marked = filled-then m k (omega (arith, n, m.place, k.place)); index = w.1.1; ends = filled_at n c.place_lines-n.ensures.ends }
+    let k = filled-as (tabled-notes a.mode.0 a.text.now f) w.memory in
+    record { answer = wrote_as (tabled-text a.mode.0 a.text.now f) w.answer; tables = (filled_at n f.0, (filled_at n f.1.0, f.1.1)); marked = filled-then m k (omega (arith, n, m.place, k.place)); index = w.index; ends = filled_at n c.place_lines-n.ensures.ends }

@@ -29,14 +29,11 @@ pub returns : goal.returns
 returns c =
     let w = c.walk_window-o in
     let h = c.shorter-h.result in
-    let whole = (
-      w.ensures.answer,
-      (
-        w.ensures.memory,
-        (
+    record {
+      answer = w.ensures.answer;
+      memory = w.ensures.memory;
+      index = (
           zeros-again h (length c.args.seen.now) w.new.seen c.wipe.ensures.0 (length_front _ w.new.seen h w.auto.seen) c.wipe-2.ensures.0,
-          zeros-again h (length c.args.first.now) w.new.first c.wipe.ensures.1 (length_front _ w.new.first h w.auto.first) c.wipe-2.ensures.1,
-        ),
-      ),
-    ) in
-    record { answer = whole.0; memory = whole.1.0; index = whole.1.1 }
+          zeros-again h (length c.args.first.now) w.new.first c.wipe.ensures.1 (length_front _ w.new.first h w.auto.first) c.wipe-2.ensures.1
+      );
+    }
