@@ -9,4 +9,4 @@ prune_with-n-requires c = (wiped-most (length c.args.seen.now) _ c.wipe.ensures,
 
 pub returns : goal.returns
 returns c =
-    record { answer = c.prune_with-n.ensures.answer; memory = c.wipe-2.ensures ∙ ap (λ (n : ℕ). replicate n 0) (c.prune_with-n.auto.1.1.0 ∙ c.wipe.auto.0); moves = c.prune_with-n.ensures.moves }
+    record { answer = c.prune_with-n.ensures.answer; memory = c.wipe-2.ensures ∙ ap (λ (n : ℕ). replicate n 0) (c.prune_with-n.auto.seen ∙ c.wipe.auto.table); moves = c.prune_with-n.ensures.moves }

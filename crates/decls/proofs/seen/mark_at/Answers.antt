@@ -1,7 +1,7 @@
 use Prim.Native.Nat.{ℕ, ◌+◌}
 use native.Mathlib.Omega.{arith}
 use mathlib.Core.Path.{sym, ap, ◌∙◌}
-use borrow.Author.Tests.{leb-true, not-true}
+use borrow.Author.Tests.{leb-true}
 use lib.Dec.{leb}
 use lib.ListN.{get_or}
 use Rattle.lines.proofs.Tests.{and_left}
@@ -30,7 +30,7 @@ pub overflow_sub-d : goal.overflow_sub-d
 overflow_sub-d c = let d = c.byte_at-d.result in leb-true 48 d (and_left (leb 48 d) (leb d 57) (digit-test d _ c.if-d.false))
 
 pub returns-then-not-is_name_byte : goal.returns-then-not-is_name_byte
-returns-then-not-is_name_byte c = let a = c.args in mark-short a.own.now a.m a.s.now a.seen.now a.i _ c.byte_at-d.result (sym c.name_before.ensures ∙ c.if-name_before.false) (sym c.byte_at.ensures ∙ c.if-byte_at-ne114.false) c.byte_at-d.ensures (digit-test c.byte_at-d.result _ c.if-d.false) (ap (λ (x : ℕ). is_name x) (sym c.byte_at-2.ensures) ∙ sym c.is_name_byte.ensures ∙ not-true _ c.if-not-is_name_byte.true) c.mark_reg.ensures
+returns-then-not-is_name_byte c = let a = c.args in mark-short a.own.now a.m a.s.now a.seen.now a.i _ c.byte_at-d.result (sym c.name_before.ensures ∙ c.if-name_before.false) (sym c.byte_at.ensures ∙ c.if-byte_at-ne114.false) c.byte_at-d.ensures (digit-test c.byte_at-d.result _ c.if-d.false) (ap (λ (x : ℕ). is_name x) (sym c.byte_at-2.ensures) ∙ sym c.is_name_byte.ensures ∙ c.if-not-is_name_byte.true) c.mark_reg.ensures
 
 pub mark_run-requires : goal.mark_run-requires
 mark_run-requires c = (ap (λ (x : ℕ). is_name x) (sym c.byte_at.ensures ∙ c.if-byte_at-ne114.false), digit-name (get_or c.args.s.now (c.args.i + 1) 0) (ap (λ (x : ℕ). is_digit x) (sym c.byte_at-d.ensures) ∙ digit-test c.byte_at-d.result _ c.if-d.false))

@@ -35,7 +35,7 @@ pub slice_bounds-mark_runs-end : goal.slice_bounds-mark_runs-end
 slice_bounds-mark_runs-end c = omega (arith, quiet-le c.loop-j.invariant.quiet, c.loop-j.invariant.marked.j≤)
 
 pub shape_of-seen-then-is_header : goal.shape_of-seen-then-is_header
-shape_of-seen-then-is_header c = c.mark_runs.auto.1.1.1.0 ∙ stretch-long c.loop-j.invariant ∙ c.mark_line.auto.1.1.1.0
+shape_of-seen-then-is_header c = c.mark_runs.auto.seen ∙ stretch-long c.loop-j.invariant ∙ c.mark_line.auto.seen
 
 pub returns-then-is_header : goal.returns-then-is_header
 returns-then-is_header c =
@@ -89,7 +89,7 @@ pub slice_bounds-mark_runs-end-2 : goal.slice_bounds-mark_runs-end-2
 slice_bounds-mark_runs-end-2 c = omega (arith, quiet-le c.loop-j.invariant.quiet, c.loop-j.invariant.marked.j≤)
 
 pub shape_of-seen : goal.shape_of-seen
-shape_of-seen c = c.mark_runs-2.auto.1.1.1.0 ∙ stretch-long c.loop-j.invariant ∙ c.mark_line.auto.1.1.1.0
+shape_of-seen c = c.mark_runs-2.auto.seen ∙ stretch-long c.loop-j.invariant ∙ c.mark_line.auto.seen
 
 pub returns : goal.returns
 returns c =

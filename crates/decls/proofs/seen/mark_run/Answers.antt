@@ -28,19 +28,19 @@ pub slice_bounds-mark_name-end : goal.slice_bounds-mark_name-end
 slice_bounds-mark_name-end c = omega (arith, c.loop-j.invariant.1.1, c.loop-j-test.true)
 
 pub shape_of-seen-then-not-is_name_byte : goal.shape_of-seen-then-not-is_name_byte
-shape_of-seen-then-not-is_name_byte c = c.mark_name.auto.1.1.1.0 ∙ ap length c.loop-j.invariant.0
+shape_of-seen-then-not-is_name_byte c = c.mark_name.auto.seen ∙ ap length c.loop-j.invariant.0
 
 pub returns-then-not-is_name_byte : goal.returns-then-not-is_name_byte
 returns-then-not-is_name_byte c =
     let a = c.args in
     let l = c.loop-j in
-    let z : l.j ≡ a.i + run_len (drop a.i a.s.now) = omega (arith, up-here (λ (x : ℕ). not (is_name x)) a.s.now l.j c.loop-j-test.true (ap not (sym c.is_name_byte.ensures) ∙ c.if-not-is_name_byte.true), l.invariant.1.0) in
+    let z : l.j ≡ a.i + run_len (drop a.i a.s.now) = omega (arith, up-here (λ (x : ℕ). not (is_name x)) a.s.now l.j c.loop-j-test.true (ap not (sym c.is_name_byte.ensures ∙ c.if-not-is_name_byte.true)), l.invariant.1.0) in
     c.mark_name.ensures
     ∙ ap (λ (w : List ℕ). mark_name a.own.now a.m (reg_of w) l.seen) (run-cut a.s.now _ a.i l.j z refl)
     ∙ ap (mark_name a.own.now a.m (reg_of (run_at a.i a.s.now))) l.invariant.0
 
 pub loop-j-preserved : goal.loop-j-preserved
-loop-j-preserved c = let l = c.loop-j in (l.invariant.0, (omega (arith, up-on (λ (x : ℕ). not (is_name x)) c.args.s.now l.j c.loop-j-test.true (ap not (sym c.is_name_byte.ensures) ∙ c.if-not-is_name_byte.false), l.invariant.1.0), omega (arith, l.invariant.1.1)))
+loop-j-preserved c = let l = c.loop-j in (l.invariant.0, (omega (arith, up-on (λ (x : ℕ). not (is_name x)) c.args.s.now l.j c.loop-j-test.true (ap not (sym c.is_name_byte.ensures ∙ c.if-not-is_name_byte.false)), l.invariant.1.0), omega (arith, l.invariant.1.1)))
 
 pub slice_bounds-mark_name-count-2 : goal.slice_bounds-mark_name-count-2
 slice_bounds-mark_name-count-2 c = omega (arith, c.loop-j.invariant.1.1)
@@ -52,7 +52,7 @@ pub slice_bounds-mark_name-end-2 : goal.slice_bounds-mark_name-end-2
 slice_bounds-mark_name-end-2 c = let s = c.before.before.before.before.before in let l = c.loop-j in omega (arith, l.invariant.1.0, l.invariant.1.1, run_inside s.args.s.now s.args.i (omega (arith, name-inside s.args.s.now s.args.i s.requires.0)))
 
 pub shape_of-seen : goal.shape_of-seen
-shape_of-seen c = c.mark_name-2.auto.1.1.1.0 ∙ ap length c.loop-j.invariant.0
+shape_of-seen c = c.mark_name-2.auto.seen ∙ ap length c.loop-j.invariant.0
 
 pub returns : goal.returns
 returns c =
