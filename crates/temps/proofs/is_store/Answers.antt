@@ -6,8 +6,8 @@ use Rattle.temps.proofs.is_store.Goals as goal
 pub returns-in-Split : goal.returns-in-Split
 returns-in-Split c =
     let a = c.args in
-    let w = assign-split a.t.now _ (sym c.assign_of.ensures ∙ c.s-1.given.1) in
+    let w = assign-split a.t.now _ (sym c.in-Split.ensures) in
     rw w.assigns (c.same.ensures ∙ ap (λ (l : List ℕ). same l a.name.now) (c.left_of.ensures ∙ w.is-left))
 
 pub returns-in-None : goal.returns-in-None
-returns-in-None c = rw (assign-not c.args.t.now (sym c.assign_of.ensures ∙ c.enum_told-1.given.1))
+returns-in-None c = rw (assign-not c.args.t.now (sym c.in-None.ensures))

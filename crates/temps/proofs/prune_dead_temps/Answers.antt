@@ -1,6 +1,5 @@
 use Rattle.std.proofs.Common.{ℕ, length, replicate, sym, ap, ◌∙◌, arith, length-take-le}
 use lib.Seq.{length_front}
-use borrow.Author.Tests.{not-true}
 use Rattle.lines.proofs.Tests.{so}
 use Rattle.lines.proofs.OutLaws.{wrote_as}
 use Rattle.slots.proofs.SlotLaws.{zeros-long, zeros-take, zeros-again}
@@ -12,12 +11,12 @@ pub stay_lines-requires : goal.stay_lines-requires
 stay_lines-requires c = omega (arith, c.requires.1.1)
 
 pub put_lines-requires : goal.put_lines-requires
-put_lines-requires c = omega (arith, c.requires.1.0, ap length (lack-text c.args.text.now (so c.has_temp.ensures (not-true _ c.if-not-has_temp.true)) (reading_of c.args.mode.0)))
+put_lines-requires c = omega (arith, c.requires.1.0, ap length (lack-text c.args.text.now (so c.has_temp.ensures c.if-not-has_temp.true) (reading_of c.args.mode.0)))
 
 pub returns-then-not-has_temp : goal.returns-then-not-has_temp
 returns-then-not-has_temp c =
     let t = c.args.text.now in
-    let k = so c.has_temp.ensures (not-true _ c.if-not-has_temp.true) in
+    let k = so c.has_temp.ensures c.if-not-has_temp.true in
     let m = c.args.mode.0 in
     record { answer = wrote_as (lack-text t k (reading_of m)) c.put_lines.ensures; memory = lack-scratch t k (strict_at m) c.args.scratch.now; tables = c.wipe.ensures; moves = lack-moves t k (reading_of m) c.stay_lines.ensures }
 
@@ -51,20 +50,15 @@ returns c =
     let a = c.args in
     let v = c.wipe.ensures in
     let z = c.wipe-2.ensures in
-    let whole = (
-      w.ensures.answer,
-      (
-        w.ensures.memory,
+    record {
+      answer = w.ensures.answer;
+      memory = w.ensures.memory;
+      tables = (
+        z.0 ∙ ap (λ (m : ℕ). replicate m 0) (w.auto.own ∙ zeros-long (length a.own.now) v.0),
         (
-          (
-            z.0 ∙ ap (λ (m : ℕ). replicate m 0) (w.auto.1.1.0 ∙ zeros-long (length a.own.now) v.0),
-            (
-              zeros-again n (length a.declared.now) w.new.1.1.1.0 v.1.0 (length_front _ w.new.1.1.1.0 n w.auto.1.1.1.0) z.1.0,
-              zeros-again n (length a.read.now) w.new.1.1.1.1.0 v.1.1 (length_front _ w.new.1.1.1.1.0 n w.auto.1.1.1.1.0) z.1.1,
-            ),
-          ),
-          w.ensures.moves,
+          zeros-again n (length a.declared.now) w.new.declared v.1.0 (length_front _ w.new.declared n w.auto.declared) z.1.0,
+          zeros-again n (length a.read.now) w.new.read v.1.1 (length_front _ w.new.read n w.auto.read) z.1.1,
         ),
-      ),
-    ) in
-    record { answer = whole.0; memory = whole.1.0; tables = whole.1.1.0; moves = whole.1.1.1 }
+      );
+      moves = w.ensures.moves;
+    }

@@ -24,7 +24,7 @@ loop-i-smaller c = omega (arith, c.after-i.ensures, c.find_byte-e.ensures, c.loo
 pub loop-i-preserved : goal.loop-i-preserved
 loop-i-preserved c =
     let p = c.put_line-p in
-    temp-on c.loop-i.invariant c.find_byte-e.result c.loop-i-test.true c.find_byte-e.ensures _ _ _ _ _ _ p.ensures.answer p.ensures.memory p.auto.1.1.1.1.1.1.0 c.note-k.ensures c.after-i.ensures
+    temp-on c.loop-i.invariant c.find_byte-e.result c.loop-i-test.true c.find_byte-e.ensures _ _ _ _ _ _ p.ensures.answer p.ensures.memory p.auto.scratch c.note-k.ensures c.after-i.ensures
 
 pub shape_of-scratch : goal.shape_of-scratch
 shape_of-scratch c = c.loop-i.invariant.same-scratch

@@ -10,7 +10,7 @@ pub returns-then-goes : goal.returns-then-goes
 returns-then-goes c =
     let a = c.args in
     let g = c.goes.ensures in
-    record { answer = wrote_as (sym (text-by (reading_of a.mode.0) (lines_of a.text.now) a.line.now true (so g.0 c.if-goes.true))) (wrote-nil a.out.now a.o (omega (arith, c.requires.1))); memory = g.1 }
+    record { answer = wrote_as (sym (text-by (reading_of a.mode.0) (lines_of a.text.now) a.line.now true (so g.answer c.if-goes.true))) (wrote-nil a.out.now a.o (omega (arith, c.requires.1))); memory = g.memory }
 
 pub put-p-requires : goal.put-p-requires
 put-p-requires c =
@@ -27,4 +27,4 @@ pub returns : goal.returns
 returns c =
     let a = c.args in
     let g = c.goes.ensures in
-    record { answer = wrote_as (sym (text-by (reading_of a.mode.0) (lines_of a.text.now) a.line.now false (so g.0 c.if-goes.false))) (wrote_then c.put-p.ensures c.put_byte.ensures); memory = g.1 }
+    record { answer = wrote_as (sym (text-by (reading_of a.mode.0) (lines_of a.text.now) a.line.now false (so g.answer c.if-goes.false))) (wrote_then c.put-p.ensures c.put_byte.ensures); memory = g.memory }

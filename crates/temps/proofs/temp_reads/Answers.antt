@@ -10,7 +10,7 @@ pub returns-then-n-eq0 : goal.returns-then-n-eq0
 returns-then-n-eq0 c = sym (reads_none c.args.name.now c.args.t.now (so c.is_binding.ensures c.if-is_binding.false) c.requires c.count_word-n.result c.count_word-n.ensures c.if-n-eq0.true)
 
 pub returns-then-is_store : goal.returns-then-is_store
-returns-then-is_store c = sym (reads-words c.args.name.now c.args.t.now (so c.is_binding.ensures c.if-is_binding.false) c.requires c.count_word-n.result c.count_word-n.ensures true (so c.is_IsStore.ensures c.if-is_store.true))
+returns-then-is_store c = sym (reads-words c.args.name.now c.args.t.now (so c.is_binding.ensures c.if-is_binding.false) c.requires c.count_word-n.result c.count_word-n.ensures true (so c.is_store.ensures c.if-is_store.true))
 
 pub returns : goal.returns
-returns c = let r = reads-words c.args.name.now c.args.t.now (so c.is_binding.ensures c.if-is_binding.false) c.requires c.count_word-n.result c.count_word-n.ensures false (so c.is_IsStore.ensures c.if-is_store.false) in omega arith
+returns c = let r = reads-words c.args.name.now c.args.t.now (so c.is_binding.ensures c.if-is_binding.false) c.requires c.count_word-n.result c.count_word-n.ensures false (so c.is_store.ensures c.if-is_store.false) in omega arith

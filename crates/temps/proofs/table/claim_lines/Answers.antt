@@ -5,7 +5,7 @@ pub loop-i-smaller : goal.loop-i-smaller
 loop-i-smaller c = omega (arith, c.after-i.ensures, c.find_byte-e.ensures, c.loop-i-test.true)
 
 pub loop-i-preserved : goal.loop-i-preserved
-loop-i-preserved c = c.claim_decl.auto.1.1.0 ∙ c.loop-i.invariant
+loop-i-preserved c = c.claim_decl.auto.own ∙ c.loop-i.invariant
 
 pub shape_of-own : goal.shape_of-own
 shape_of-own c = c.loop-i.invariant
