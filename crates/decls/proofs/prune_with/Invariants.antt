@@ -10,4 +10,3 @@ invariant-loop-i l = (PruneInv l.text l.initial.out l.out l.a l.c l.i l.o) × ((
 
 abbrev pub decreases-loop-i : goal.decreases-loop-i
 decreases-loop-i l = length l.text - l.i
-    -- the region of the line, where the arms of the `if` meet

@@ -11,7 +11,7 @@ use Rattle.lines.proofs.LfLaws.{find-le}
 use Rattle.decls.proofs.put_decl.Goals as goal
 
 pub loop-out-init : goal.loop-out-init
-loop-out-init c = let s = c.before.before.before.before.before.before in let a = s.args in decl-start (stays (lines_of a.region.now)) 1 a.indent.now a.body.now a.out.now a.o s.requires.1
+loop-out-init c = let s = c in let a = s.args in decl-start (stays (lines_of a.region.now)) 1 a.indent.now a.body.now a.out.now a.o s.requires.1
 
 pub slice_bounds-trim-end : goal.slice_bounds-trim-end
 slice_bounds-trim-end c = omega (arith, find-le 44 c.args.body.now c.loop-out.i c.find_byte-e.result c.loop-out.invariant.i≤ c.find_byte-e.ensures)

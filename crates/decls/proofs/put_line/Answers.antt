@@ -18,7 +18,7 @@ slice_bounds-put_decl-start c = omega (arith, decl-long _ (ap is_decl c.trim-t.e
 
 pub put_decl-requires : goal.put_decl-requires
 put_decl-requires c =
-    let s = c.before.before.before.before.before.before.before.before.before.before in
+    let s = c in
     let t = c.trim-t in
     let f = c.trim_from-a in
     let i = c.cut in
@@ -26,7 +26,7 @@ put_decl-requires c =
 
 pub returns : goal.returns
 returns c =
-    let s = c.before.before.before.before.before.before.before.before.before.before.before.before.before in
+    let s = c in
     let t = c.trim-t in
     let f = c.trim_from-a in
     let i = c.cut in

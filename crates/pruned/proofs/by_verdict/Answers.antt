@@ -4,4 +4,4 @@ use mathlib.Core.Path.{sym, ap}
 use Rattle.pruned.proofs.by_verdict.Goals as goal
 
 pub returns-in-Stops : goal.returns-in-Stops
-returns-in-Stops c = ap (λ (x : Verdict). by_verdict x) (sym c.v-1.given.1)
+returns-in-Stops c = ap (λ (x : Verdict). by_verdict x) (sym c.in-Stops.is)

@@ -9,7 +9,7 @@ use Rattle.decls.proofs.print.put_name.Goals as goal
 
 pub put_lead-p-requires : goal.put_lead-p-requires
 put_lead-p-requires c =
-    let s = c.before.before.before.before.before.before in
+    let s = c in
     let a = s.args in
     let g = c.skip_zeros-z in
     writing-fits (lead_of a.indent.now a.some) _
@@ -17,21 +17,21 @@ put_lead-p-requires c =
 
 pub put-requires : goal.put-requires
 put-requires c =
-    let s = c.before.before.before.before.before.before.before.before.before.before.before in
+    let s = c in
     let a = s.args in
     let g = c.skip_zeros-z in
     writing-fits a.t.now [] (writing-put (plain-writing a.t.now a.k g.result (g.ensures ∙ ap zeros c.cut.ensures) c.if-z-eq0.true a.indent.now a.some a.out.now a.o s.requires) c.put_lead-p.ensures)
 
 pub returns-then-z-eq0 : goal.returns-then-z-eq0
 returns-then-z-eq0 c =
-    let s = c.before.before.before.before.before.before.before.before.before.before.before.before.before.before in
+    let s = c in
     let a = s.args in
     let g = c.skip_zeros-z in
     writing-end (writing-put (writing-put (plain-writing a.t.now a.k g.result (g.ensures ∙ ap zeros c.cut.ensures) c.if-z-eq0.true a.indent.now a.some a.out.now a.o s.requires) c.put_lead-p.ensures) c.put.ensures)
 
 pub put-q-requires : goal.put-q-requires
 put-q-requires c =
-    let s = c.before.before.before.before.before.before.before.before.before.before.before.before in
+    let s = c in
     let a = s.args in
     let g = c.skip_zeros-z in
     writing-fits c.cut-2.result.now _
@@ -44,7 +44,7 @@ overflow_add-k c = let a = c.args in let g = c.skip_zeros-z in omega (arith, nam
 
 pub put-requires-2 : goal.put-requires-2
 put-requires-2 c =
-    let s = c.before.before.before.before.before.before.before.before.before.before.before.before.before.before.before.before.before in
+    let s = c in
     let a = s.args in
     let g = c.skip_zeros-z in
     writing-fits c.cut-3.result.now []
@@ -55,7 +55,7 @@ put-requires-2 c =
 
 pub returns : goal.returns
 returns c =
-    let s = c.before.before.before.before.before.before.before.before.before.before.before.before.before.before.before.before.before.before.before.before in
+    let s = c in
     let a = s.args in
     let g = c.skip_zeros-z in
     writing-end

@@ -49,7 +49,7 @@ pub slice_bounds-mark_name-start-2 : goal.slice_bounds-mark_name-start-2
 slice_bounds-mark_name-start-2 c = omega (arith, c.loop-j.invariant.1.1)
 
 pub slice_bounds-mark_name-end-2 : goal.slice_bounds-mark_name-end-2
-slice_bounds-mark_name-end-2 c = let s = c.before.before.before.before.before in let l = c.loop-j in omega (arith, l.invariant.1.0, l.invariant.1.1, run_inside s.args.s.now s.args.i (omega (arith, name-inside s.args.s.now s.args.i s.requires.0)))
+slice_bounds-mark_name-end-2 c = let s = c in let l = c.loop-j in omega (arith, l.invariant.1.0, l.invariant.1.1, run_inside s.args.s.now s.args.i (omega (arith, name-inside s.args.s.now s.args.i s.requires.0)))
 
 pub shape_of-seen : goal.shape_of-seen
 shape_of-seen c = c.mark_name-2.auto.seen ∙ ap length c.loop-j.invariant.0

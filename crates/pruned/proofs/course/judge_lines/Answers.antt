@@ -29,7 +29,7 @@ pub loop-live-smaller-then-byte_at-eq1 : goal.loop-live-smaller-then-byte_at-eq1
 loop-live-smaller-then-byte_at-eq1 c = omega (arith, c.after-i.ensures, c.find_byte-e.ensures, c.if-i-pruned.false)
 
 pub loop-live-preserved-then-byte_at-eq1 : goal.loop-live-preserved-then-byte_at-eq1
-loop-live-preserved-then-byte_at-eq1 c = course-on c.loop-live.invariant c.byte_at.result c.byte_at.ensures c.if-byte_at-eq1.true c.if-i-pruned.false c.find_byte-e.result c.find_byte-e.ensures _ c.step-r.auto.1.1.1.1.1.1.1.1.0 c.step-r.result.stop c.step-r.result.at c.step-r.result.top c.step-r.ensures c.after-i.result c.after-i.ensures
+loop-live-preserved-then-byte_at-eq1 c = course-on c.loop-live.invariant c.byte_at.result c.byte_at.ensures c.if-byte_at-eq1.true c.if-i-pruned.false c.find_byte-e.result c.find_byte-e.ensures _ c.step-r.auto.live c.step-r.result.stop c.step-r.result.at c.step-r.result.top c.step-r.ensures c.after-i.result c.after-i.ensures
 
 pub shape_of-live-then-at-raw : goal.shape_of-live-then-at-raw
 shape_of-live-then-at-raw c = c.loop-live.invariant.long

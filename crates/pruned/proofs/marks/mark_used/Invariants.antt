@@ -10,5 +10,3 @@ invariant-loop-i l = (MarkInv l.raw l.initial.out l.out l.a l.i l.o) × (TableIn
 
 abbrev pub decreases-loop-i : goal.decreases-loop-i
 decreases-loop-i l = length l.raw - l.i
-
--- the region of the line, where the arms of the `if` meet

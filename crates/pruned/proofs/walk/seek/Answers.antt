@@ -19,7 +19,7 @@ pub walk-requires : goal.walk-requires
 walk-requires c = ((seek_found c.loop-k.invariant c.loop-k-test.true c.find_far-e.result c.find_far-e.ensures c.cut.result.now c.cut.ensures c.may_be.result c.may_be.ensures c.if-may_be.true).i≤, c.loop-k.invariant.above)
 
 pub shape_of-live-then-may_be : goal.shape_of-live-then-may_be
-shape_of-live-then-may_be c = c.walk.auto.1.1.1.1.1.1.1.1.0 ∙ c.loop-k.invariant.long
+shape_of-live-then-may_be c = c.walk.auto.live ∙ c.loop-k.invariant.long
 
 pub returns-then-may_be : goal.returns-then-may_be
 returns-then-may_be c = seek-done (seek_found c.loop-k.invariant c.loop-k-test.true c.find_far-e.result c.find_far-e.ensures c.cut.result.now c.cut.ensures c.may_be.result c.may_be.ensures c.if-may_be.true) c.walk.ensures
@@ -40,7 +40,7 @@ pub walk-requires-2 : goal.walk-requires-2
 walk-requires-2 c = ((seek-end c.loop-k.invariant c.loop-k-test.false).i≤, c.loop-k.invariant.above)
 
 pub shape_of-live : goal.shape_of-live
-shape_of-live c = c.walk-2.auto.1.1.1.1.1.1.1.1.0 ∙ c.loop-k.invariant.long
+shape_of-live c = c.walk-2.auto.live ∙ c.loop-k.invariant.long
 
 pub returns : goal.returns
 returns c = seek-done (seek-end c.loop-k.invariant c.loop-k-test.false) c.walk-2.ensures

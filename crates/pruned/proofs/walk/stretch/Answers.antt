@@ -1,6 +1,5 @@
 use Rattle.lines.proofs.LfLaws.{find-le}
 use native.Mathlib.Omega.{arith}
-use borrow.Author.Tests.{not-false}
 use Prim.Native.Nat.{◌-◌}
 use Rattle.pruned.proofs.SeekCode.{stretch-start, stretch-known, stretch-on, stretch-done}
 use Rattle.pruned.proofs.walk.stretch.Goals as goal
@@ -30,7 +29,7 @@ pub loop-i-smaller : goal.loop-i-smaller
 loop-i-smaller c = omega (arith, c.after-i.ensures, c.find_far-e.ensures, c.loop-i-test.true)
 
 pub loop-i-preserved : goal.loop-i-preserved
-loop-i-preserved c = stretch-on c.loop-i.invariant c.loop-i-test.true c.find_far-e.result c.find_far-e.ensures c.cut.result.now c.cut.ensures c.may_go-go.result c.may_go-go.ensures (not-false _ c.if-not-go.false) c.byte_at.result c.byte_at.ensures c.if-byte_at-ne1.false c.after-i.result c.after-i.ensures
+loop-i-preserved c = stretch-on c.loop-i.invariant c.loop-i-test.true c.find_far-e.result c.find_far-e.ensures c.cut.result.now c.cut.ensures c.may_go-go.result c.may_go-go.ensures c.if-not-go.false c.byte_at.result c.byte_at.ensures c.if-byte_at-ne1.false c.after-i.result c.after-i.ensures
 
 pub returns : goal.returns
 returns c = stretch-done c.loop-i.invariant
