@@ -1,11 +1,11 @@
 -- What the other passes do to the weight: drop bytes, put a value for a name, promote a store, cut a text into lines. Assumes nothing.
-use Prim.Native.Nat.{ℕ, zero, suc, ◌+◌, ◌-◌, ◌*◌, ◌≤◌, ◌<◌}
+use Prim.Native.Nat.{ℕ, zero, suc, ◌+◌, ◌≤◌}
 use mathlib.Core.Path.{◌≡◌, refl, sym, ap, ◌∙◌}
 use mathlib.Core.Bool.{Bool, true, false, cond, ◌&&◌, ◌||◌}
-use mathlib.Core.List.{List, [], ◌∷◌, ◌++◌, append_assoc}
+use mathlib.Core.List.{List, [], ◌∷◌, ◌++◌}
 use native.Mathlib.Omega.{arith}
 use borrow.Author.Tests.{eqb-true, ne_eqb}
-use lib.ListN.{length, take, drop, get_or, take-append-drop}
+use lib.ListN.{length, take, drop, take-append-drop}
 use lib.Dec.{eqb}
 use Rattle.text.specs.White.{is_white}
 use Rattle.text.specs.Utf8Form.{seq_len}
@@ -17,7 +17,7 @@ use Rattle.names.specs.Names.{reg_text}
 use Rattle.words.specs.Hits.{glue_left, glue_right, glued}
 use Rattle.lines.specs.Acts.{Act, keep, become, into, gone, act, apply}
 use Rattle.weight.specs.Inner.Weight.{spaced, extra, weight}
-use Rattle.weight.proofs.Weigh.{extra-le, length-weight, weight-twice, weight-append, weight-cut, weight-swap, weight-line, nothing}
+use Rattle.weight.proofs.Weigh.{extra-le, weight-append, weight-cut, weight-swap, weight-line, nothing}
 use Rattle.weight.proofs.Pays.{Pays, done, step, pays}
 
 white-space : (r : List ℕ) → white_head (32 ∷ r) ≡ 1

@@ -1,3 +1,2 @@
 // The weight of a text, which no pass raises: theorems alone.
 #![tactic(auto)]
-
