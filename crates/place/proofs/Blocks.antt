@@ -1,7 +1,7 @@
 -- Blocks of lines that are cut. Assumes nothing.
 use Prim.Native.Nat.{ℕ, zero, suc, ◌+◌, ◌≤◌, ◌<◌}
 use mathlib.Core.Path.{◌≡◌, refl, sym, ap, ◌∙◌}
-use mathlib.Core.Bool.{Bool, true, false, cond, ◌&&◌}
+use mathlib.Core.Bool.{Bool, true, false}
 use mathlib.Core.List.{List, [], ◌∷◌, ◌++◌}
 use native.Mathlib.Omega.{arith}
 use borrow.Author.Tests.{eq-eqb, ne_eqb, eqb-true, eqb-false}
@@ -14,7 +14,7 @@ use Rattle.place.specs.Blocks.{Brace, opens, closes, neither, brace_of, push, co
 use Rattle.place.specs.Inner.Blocks.{block_ids, may_at, depth_at, depth_after, own_line, own_go, own}
 use Rattle.place.specs.Paths.{tops}
 use Rattle.place.specs.Inner.Parents.{braces, ids_pre, ids_post}
-use Rattle.place.proofs.Stacks.{walk, tally, Given, base, on, given-pos, given-top, given-walk, given-first, noted}
+use Rattle.place.proofs.Stacks.{walk, tally, Given, given-pos, given-top, given-walk, given-first, noted}
 
 -- ---- the definition is the reading of every brace, none of them before a line is noted
 

@@ -1,11 +1,11 @@
 -- Laws of `Filled`, and of filling a table entry by entry. Assumes nothing.
-use Prim.Native.Nat.{ℕ, zero, suc, ◌+◌, ◌-◌, ◌≤◌, ◌<◌}
+use Prim.Native.Nat.{ℕ, suc, ◌+◌, ◌-◌, ◌≤◌, ◌<◌}
 use mathlib.Core.Path.{◌≡◌, refl, sym, ap, ◌∙◌, subst}
-use mathlib.Core.Bool.{Bool, cond}
+use mathlib.Core.Bool.{Bool}
 use mathlib.Core.List.{List, [], ◌∷◌, ◌++◌}
 use native.Mathlib.Omega.{arith}
 use native.Mathlib.Numerals.{add-one}
-use lib.ListN.{length, get_or, set, take, drop, length-append, length-drop, take-append-drop}
+use lib.ListN.{length, set, take, drop, length-append, length-drop, take-append-drop}
 use lib.Seq.{set_split, append_snoc, length-take-le, take_at, drop-drop, drop-append-add}
 use Rattle.lines.specs.Inner.Out.{put_at, Wrote}
 use Rattle.lines.proofs.OutLaws.{wrote-byte, Writing, writing-as, writing-put, writing-room, writing-end}

@@ -1,7 +1,7 @@
 -- The lines of `block_paths`: flat ones, loops and ends on the way. Assumes nothing.
 use Prim.Native.Nat.{ℕ, zero, suc, ◌+◌, ◌-◌, ◌≤◌, ◌<◌, ◌^◌, min}
 use mathlib.Core.Path.{◌≡◌, refl, sym, ap, ◌∙◌}
-use mathlib.Core.Bool.{Bool, true, false, cond, not, ◌&&◌, ◌||◌, or_assoc}
+use mathlib.Core.Bool.{Bool, true, false, not, ◌&&◌, ◌||◌, or_assoc}
 use mathlib.Core.List.{List, [], ◌∷◌, ◌++◌}
 use native.Mathlib.Omega.{arith}
 use native.Mathlib.Numerals.{add-one}
@@ -14,12 +14,12 @@ use Rattle.lines.proofs.Tests.{or-false, and_left, and_right, eqb-sym}
 use Rattle.lines.proofs.LfLaws.{lines-at, lines_end, find-le}
 use Rattle.text.specs.Trim.{from_of, to_of, trim_of}
 use Rattle.place.specs.Blocks.{Brace, closes}
-use Rattle.place.specs.Paths.{path_closes, block_paths, tops}
+use Rattle.place.specs.Paths.{block_paths, tops}
 use Rattle.place.specs.Inner.Paths.{flat_end, is_flat}
 use Rattle.place.specs.Inner.Loops.{starts_loop, some_loop}
 use Rattle.place.specs.Inner.Ends.{ends_from}
 use Rattle.place.specs.Inner.Fill.{Filled}
-use Rattle.place.specs.Inner.Parents.{cur_by, ups_by, Room, Moved, path_pre, path_open, path_post, path_parents}
+use Rattle.place.specs.Inner.Parents.{cur_by, Room, Moved, path_pre, path_post, path_parents}
 use Rattle.place.proofs.Parents.{moved_none, moved_as}
 use Rattle.place.proofs.Quiet.{starts-not, low_end}
 use Rattle.place.proofs.Tables.{LinesInv, lines_start, lines-on, lines-done, closes-none, open_no, paths-done}

@@ -4,7 +4,7 @@ use mathlib.Core.Path.{◌≡◌, ◌∙◌}
 use mathlib.Core.Bool.{true}
 use mathlib.Core.List.{List}
 use lib.ListN.{length}
-use Rattle.place.specs.Inner.Region.{regions_go, regions}
+use Rattle.place.specs.Inner.Region.{regions}
 use Rattle.place.specs.Blocks.{cleaned}
 use Rattle.place.specs.Inner.Blocks.{block_ids}
 use Rattle.place.specs.Paths.{block_paths, tops}

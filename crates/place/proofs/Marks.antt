@@ -1,7 +1,7 @@
 -- The table of where lines end and which open a region, as it is filled and as it is read. Assumes nothing.
-use Prim.Native.Nat.{ℕ, suc, ◌+◌, ◌-◌, ◌*◌, ◌≤◌, ◌<◌, min}
+use Prim.Native.Nat.{ℕ, suc, ◌+◌, ◌-◌, ◌≤◌, ◌<◌, min}
 use mathlib.Core.Path.{◌≡◌, refl, sym, ap, ◌∙◌}
-use mathlib.Core.Bool.{Bool, true, false, cond}
+use mathlib.Core.Bool.{Bool, true, false}
 use mathlib.Core.List.{List, [], ◌∷◌, ◌++◌}
 use native.Mathlib.Omega.{arith}
 use borrow.Author.Tests.{ltb-true, ltb-false}
@@ -11,7 +11,6 @@ use lib.Seq.{get_or-drop, drop-drop, length-take-le}
 use Rattle.lines.specs.Lf.{part, up_to, lines_of}
 use Rattle.lines.proofs.LfLaws.{lines-at, lines_end, find-le}
 use Rattle.lines.proofs.OutLaws.{Writing, writing_start, writing-as, writing-room}
-use Rattle.place.specs.Region.{is_header}
 use Rattle.place.specs.Inner.Fill.{Filled}
 use Rattle.place.specs.Inner.Ends.{end_mark, end_marks}
 use Rattle.place.proofs.Fills.{entry-on, entry-end}

@@ -6,7 +6,7 @@ use native.Mathlib.Omega.{arith}
 use borrow.Author.Tests.{eq-eqb, ne_eqb}
 use lib.ListN.{length, get_or, set, take, replicate, length-append, get_or-append, get_or-eq_default, length-take}
 use lib.Seq.{get_or-append_seam, get_or-take, length-take-le}
-use Rattle.place.specs.Blocks.{Brace, opens, closes, neither, brace_of, push, count, top, blocks, cleaned}
+use Rattle.place.specs.Blocks.{Brace, opens, closes, neither, brace_of, push, count, top, blocks}
 use Rattle.place.specs.Inner.Blocks.{block_ids}
 use Rattle.place.specs.Paths.{block_paths, tops}
 use Rattle.place.specs.Inner.Parents.{around, cur_at, ups_at, cur_by, ups_by, Room, Moved, braces, notes_go, ids_pre, ids_post, path_pre, path_post}

@@ -1,10 +1,10 @@
 -- `block_paths`: the innermost open block decides the path. Assumes nothing.
-use Prim.Native.Nat.{ℕ, zero, suc, ◌+◌, ◌≤◌, ◌<◌}
+use Prim.Native.Nat.{ℕ, zero, suc, ◌≤◌, ◌<◌}
 use mathlib.Core.Path.{◌≡◌, refl, sym, ap, ◌∙◌}
 use mathlib.Core.Bool.{Bool, true, false, cond}
 use mathlib.Core.List.{List, [], ◌∷◌, ◌++◌}
 use native.Mathlib.Omega.{arith}
-use borrow.Author.Tests.{eq-eqb, ne_eqb, eqb-true, leb-true, leb-false}
+use borrow.Author.Tests.{eq-eqb, eqb-true, leb-true, leb-false}
 use lib.ListN.{length, get_or, drop, replicate}
 use lib.Seq.{drop-nil}
 use lib.Dec.{eqb, leb}
@@ -12,10 +12,10 @@ use Rattle.lines.specs.Lf.{same, ends_in}
 use Rattle.lines.proofs.Tests.{eqb-sym, no}
 use Rattle.lines.proofs.Compare.{same-eq, same_refl}
 use Rattle.text.specs.Trim.{trim_of}
-use Rattle.place.specs.Blocks.{Brace, opens, closes, neither, push, count, top}
+use Rattle.place.specs.Blocks.{opens, closes, push, count, top}
 use Rattle.place.specs.Paths.{path_closes, path_after, path_next, paths_go, block_paths, tops}
 use Rattle.place.specs.Inner.Parents.{path_pre, path_open, path_post}
-use Rattle.place.proofs.Stacks.{walk, tally, walk-append, tally-append, noted, noted-same, noted-length, given-first, drop-one, tops-at, tops-length}
+use Rattle.place.proofs.Stacks.{walk, tally, walk-append, tally-append, noted, noted-same, noted-length, given-first, tops-at, tops-length}
 
 -- ---- the braces of a line do what the definition says
 

@@ -10,7 +10,7 @@ use Rattle.lines.specs.Lf.{all}
 use Rattle.lines.proofs.Tests.{and_left, and_right}
 use Rattle.lexical.specs.Inner.Plain.{is_plain}
 use Rattle.lexical.proofs.PlainLaws.{plain-low}
-use Rattle.place.specs.Blocks.{Brace, neither, brace_of}
+use Rattle.place.specs.Blocks.{neither, brace_of}
 use Rattle.place.specs.Inner.Parents.{cur_by, ups_by, braces, Moved}
 use Rattle.place.proofs.Parents.{moved_none}
 

@@ -7,13 +7,13 @@ use native.Mathlib.Omega.{arith}
 use borrow.Author.Tests.{not-true, ltb-true, ltb-false, le-leb}
 use lib.ListN.{length, get_or, take, drop, replicate, length-drop, drop_of_length-le}
 use lib.Seq.{get_or-drop, take_all}
-use lib.Dec.{eqb, ltb, leb}
+use lib.Dec.{eqb, ltb}
 use Rattle.lines.specs.Lf.{part, up_to, count_of, ends_in, lines_of}
 use Rattle.lines.specs.Inner.Out.{put_at, Wrote}
 use Rattle.lines.proofs.Tests.{no, and_left, and_right}
 use Rattle.lines.proofs.LfLaws.{lines-at, lines_end}
 use Rattle.text.specs.Trim.{from_of, end_white, to_of, trim_of}
-use Rattle.text.proofs.Trims.{from_of-le, back-told}
+use Rattle.text.proofs.Trims.{back-told}
 use Rattle.place.specs.Inner.Paths.{flat_end}
 use Rattle.place.specs.Loops.{opens_loop, any_loop, loops_after, loops_go, inside_loop}
 use Rattle.place.specs.Inner.Loops.{starts_loop, some_loop, above_loop}

@@ -4,14 +4,14 @@ use mathlib.Core.Path.{◌≡◌, refl, sym, ap, ◌∙◌}
 use mathlib.Core.Bool.{Bool, true, false, cond, not, ◌&&◌, ◌||◌}
 use mathlib.Core.List.{List, [], ◌∷◌, ◌++◌}
 use native.Mathlib.Omega.{arith}
-use borrow.Author.Tests.{ne_eqb, eqb-true, leb-true, leb-false, ltb-true, ltb-false}
+use borrow.Author.Tests.{eqb-true, leb-true, leb-false, ltb-true, ltb-false}
 use lib.Dec.{eqb, leb, ltb}
-use lib.ListN.{length, get_or, take, drop, length-take, length-drop, drop_of_length-le}
-use lib.Seq.{drop-cons, drop-drop, take_all, take-nil, take-append-add, length-take-le}
+use lib.ListN.{length, get_or, take, drop, length-drop, drop_of_length-le}
+use lib.Seq.{drop-drop, take_all, take-nil, take-append-add, length-take-le}
 use Rattle.lines.specs.Lf.{part, up_to, lines_of, prefixed}
 use Rattle.lines.specs.Inner.Lf.{lacks}
 use Rattle.lines.proofs.Tests.{no, or-false, and_left, and-true, eqb-sym}
-use Rattle.lines.proofs.LfLaws.{up_to-le, lines-first, lines-line, drop_min}
+use Rattle.lines.proofs.LfLaws.{lines-first, lines-line, drop_min}
 use Rattle.place.specs.Region.{function_word, var_word, let_head, const_word, class_word, let_phi, is_header, until_header, region, region_at}
 use Rattle.place.specs.Inner.Region.{up_header, region_len}
 

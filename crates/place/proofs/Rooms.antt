@@ -19,7 +19,7 @@ use Rattle.lexical.specs.Joined.{taken, open_below, rests_from, rests_in}
 use Rattle.lexical.specs.Lex.{last_of, token_of, leaves, lex_go, strip_lexical}
 use Rattle.place.specs.Blocks.{Brace, opens, closes, neither, brace_of}
 use Rattle.place.specs.Paths.{path_closes}
-use Rattle.place.specs.Inner.Parents.{cur_at, ups_at, cur_by, ups_by, flat, braces, ids_pre, ids_post, path_pre, path_open, path_post, ids_parents, path_parents}
+use Rattle.place.specs.Inner.Parents.{cur_at, ups_at, ups_by, flat, braces, ids_pre, ids_post, path_pre, path_open, path_post, ids_parents, path_parents}
 
 -- ---- how many braces open
 

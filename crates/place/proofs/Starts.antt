@@ -1,20 +1,19 @@
 -- `starts_statement`: the table says what looking up from a line says, and nobody looks past a line that is not blank. Assumes nothing.
-use Prim.Native.Nat.{ℕ, zero, suc, ◌+◌, ◌-◌, ◌≤◌, ◌<◌}
+use Prim.Native.Nat.{ℕ, zero, suc, ◌-◌, ◌≤◌, ◌<◌}
 use mathlib.Core.Path.{◌≡◌, refl, sym, ap, ◌∙◌}
 use mathlib.Core.Bool.{Bool, true, false, cond, not, ◌&&◌, ◌||◌}
 use mathlib.Core.List.{List, [], ◌∷◌, ◌++◌, append_assoc, append-nil, reverse, reverse_aux}
 use native.Mathlib.Omega.{arith}
-use borrow.Author.Tests.{eq-eqb, ne_eqb, eqb-true, eqb-false, leb-true, leb-false, not-true}
+use borrow.Author.Tests.{eq-eqb, ne_eqb, eqb-true, leb-true, leb-false, not-true}
 use lib.ListN.{length, get_or, take, drop}
-use lib.Seq.{slice, drop-cons}
+use lib.Seq.{slice}
 use lib.Dec.{eqb, leb}
 use Rattle.lines.specs.Lf.{within, among, prefixed}
-use Rattle.lines.proofs.Tests.{no, and_left, and_right, and-false}
+use Rattle.lines.proofs.Tests.{no, and_left, and_right}
 use Rattle.text.specs.White.{is_white}
 use Rattle.text.specs.Class.{is_quote}
 use Rattle.text.specs.Utf8Form.{seq_len}
 use Rattle.text.specs.Trim.{point, white_char, white_tail, end_white, to_of}
-use Rattle.text.proofs.Whites.{tail-le}
 use Rattle.text.proofs.Trims.{back-stop, back_on}
 use Rattle.lexical.specs.declared.Token.{Token}
 use Rattle.lexical.specs.declared.Kind.{Kind}

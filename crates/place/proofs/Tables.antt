@@ -1,23 +1,22 @@
 -- The loop that notes a block for each line, for any reading of braces, and the functions of `block_paths`. Assumes nothing.
-use Prim.Native.Nat.{ℕ, zero, suc, ◌+◌, ◌-◌, ◌≤◌, ◌<◌, ◌^◌, min}
+use Prim.Native.Nat.{ℕ, ◌+◌, ◌-◌, ◌≤◌, ◌<◌, ◌^◌, min}
 use mathlib.Core.Path.{◌≡◌, refl, sym, ap, ◌∙◌, subst}
-use mathlib.Core.Bool.{Bool, true, false, cond}
+use mathlib.Core.Bool.{true, false}
 use mathlib.Core.List.{List, [], ◌∷◌, ◌++◌, append_assoc, append-nil}
 use native.Mathlib.Omega.{arith}
-use borrow.Author.Tests.{eq-eqb, ne_eqb, eqb-true}
-use lib.ListN.{length, get_or, set, take, drop, replicate}
+use lib.ListN.{length, set, take, drop, replicate}
 use lib.Dec.{eqb}
 use Rattle.lines.specs.Lf.{part, up_to, count_of, prefixed, ends_in, lines_of}
 use Rattle.lines.proofs.Tests.{no, and_left, eqb-sym}
 use Rattle.lines.proofs.LfLaws.{lines-at, lines_end}
 use Rattle.lines.proofs.OutLaws.{Writing, writing_start, writing-as, writing-room, writing-length}
 use Rattle.text.specs.Trim.{trim_of}
-use Rattle.place.specs.Blocks.{Brace, opens, closes, neither, brace_of}
+use Rattle.place.specs.Blocks.{Brace, opens, closes}
 use Rattle.place.specs.Paths.{path_closes, block_paths, tops}
 use Rattle.place.specs.Inner.Fill.{Filled}
 use Rattle.place.specs.Inner.Parents.{cur_by, ups_by, Room, Moved, notes_go, flat, path_pre, path_open, path_post, path_parents}
 use Rattle.place.proofs.Fills.{entry-on, entry-end, filled-as}
-use Rattle.place.proofs.Parents.{moved_none, moved_plain, moved_then, moved-take, moved_as, moved-closes, room_as, room-first, room-then, room-length, notes-length, path-notes}
+use Rattle.place.proofs.Parents.{moved_none, moved_then, moved-take, moved_as, moved-closes, room_as, room-first, room-then, room-length, notes-length, path-notes}
 
 -- ---- the loop
 

@@ -1,5 +1,5 @@
 -- The loops of `walk_line` and `place_lines`. Assumes nothing.
-use Prim.Native.Nat.{ℕ, zero, suc, ◌+◌, ◌-◌, ◌≤◌, ◌<◌, ◌^◌, min}
+use Prim.Native.Nat.{ℕ, ◌+◌, ◌-◌, ◌≤◌, ◌<◌, ◌^◌, min}
 use mathlib.Core.Path.{◌≡◌, refl, sym, ap, ◌∙◌, subst}
 use mathlib.Core.Bool.{Bool, true, false, cond, ◌&&◌, ◌||◌}
 use mathlib.Core.List.{List, [], ◌∷◌, ◌++◌, append_assoc}
@@ -21,7 +21,7 @@ use Rattle.lexical.specs.declared.Kind.TheVariants.{Kept}
 use Rattle.lexical.specs.declared.Token.{Token}
 use Rattle.lexical.specs.declared.Step.{Step}
 use Rattle.lexical.specs.declared.Tail.{Tail}
-use Rattle.lexical.specs.Lex.{last_of, token, leaves, lex_go, strip_lexical}
+use Rattle.lexical.specs.Lex.{last_of, token, leaves, strip_lexical}
 use Rattle.lexical.specs.Inner.Lex.{token_at, tail_of, pushed, grown, clean_step}
 use Rattle.lexical.specs.declared.Open.{Open}
 use Rattle.lexical.specs.declared.Rest.{Rest}
@@ -39,7 +39,7 @@ use Rattle.place.specs.Inner.Blocks.{block_ids}
 use Rattle.place.specs.Starts.{starts_after, starts_go}
 use Rattle.place.specs.Inner.Starts.{starts_by_last}
 use Rattle.place.specs.Inner.Fill.{Filled, flags_of}
-use Rattle.place.specs.Inner.Parents.{cur_by, ups_by, Room, Moved, notes_go, flat, braces, ids_pre, ids_post, ids_parents}
+use Rattle.place.specs.Inner.Parents.{cur_by, Room, Moved, braces, ids_pre, ids_post, ids_parents}
 use Rattle.place.proofs.Blocks.{cleaned-length}
 use Rattle.place.proofs.Fills.{entry-on, entry-end, flags-length, filled-as}
 use Rattle.place.proofs.Parents.{moved_none, moved_then, moved_as, room_as, room-first, room-then, room-length, ids-notes}

@@ -1,4 +1,3 @@
-use Prim.Native.Nat.{◌-◌}
 use native.Mathlib.Omega.{arith}
 use Rattle.lines.proofs.LfLaws.{find-le}
 use Rattle.place.specs.Inner.Parents.{path_pre, path_post}

@@ -1,5 +1,5 @@
 use mathlib.Core.Path.{sym, ap, ◌∙◌}
-use mathlib.Core.Bool.{Bool, false, ◌||◌}
+use mathlib.Core.Bool.{Bool, ◌||◌}
 use Rattle.lines.specs.Ascii.{ascii}
 use Rattle.lines.specs.Lf.{suffixed}
 use Rattle.place.specs.Inner.Loops.{loop_label}

@@ -1,4 +1,3 @@
-use Prim.Native.Nat.{◌-◌}
 use native.Mathlib.Omega.{arith}
 use Rattle.place.proofs.Walks.{walk-front, walk-plain, walk-room, walk-less, walk-on, walk-length, walk-done, tail-to}
 use Rattle.place.proofs.walk_tokens.Goals as goal

@@ -1,5 +1,5 @@
 -- What it is to fill the first entries of a lent table. Assumes nothing.
-use Rattle.std.specs.Prelude.{ℕ, ◌≡◌, Bool, true, false, cond, List, [], ◌∷◌, ◌++◌, length, drop}
+use Rattle.std.specs.Prelude.{ℕ, ◌≡◌, Bool, cond, List, [], ◌∷◌, ◌++◌, length, drop}
 
 -- the first entries of d' are xs, r of them, and the others are as in d
 pub record Filled (d xs d' : List ℕ) (r : ℕ) : Type 0 where

@@ -1,6 +1,6 @@
 -- The open blocks by a table of parents, whatever braces of a line count: entry k is the block around block k + 1. The table is only added to.
 -- Assumes nothing.
-use Rattle.std.specs.Prelude.{ℕ, zero, suc, ◌≤◌, ◌<◌, ◌^◌, ◌≡◌, Bool, true, false, cond, List, [], ◌∷◌, ◌++◌, length, take, get_or, replicate}
+use Rattle.std.specs.Prelude.{ℕ, zero, suc, ◌≤◌, ◌<◌, ◌^◌, ◌≡◌, cond, List, [], ◌∷◌, ◌++◌, length, take, get_or, replicate}
 use Prim.Native.Char.{code}
 use Rattle.lines.specs.Lf.{ends_in}
 use Rattle.text.specs.Trim.{trim_of}
