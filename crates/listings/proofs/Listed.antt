@@ -18,7 +18,7 @@ use Rattle.names.specs.declared.RegName.TheVariants as name
 use Rattle.parse.specs.declared.Line.{Line}
 use Rattle.parse.specs.declared.Line.TheVariants as parsed
 use Rattle.expr.specs.declared.kinds.Purity.{Purity}
-use Rattle.expr.specs.declared.kinds.Purity.TheVariants.{Stable, Ident, Effectful}
+use Rattle.expr.specs.declared.kinds.Purity.TheVariants.{Stable, Effectful}
 
 -- what is asked: what a line is, its expression, the register that a text names, the purity of a value, a register replaced in a line by
 -- a text, a line cleaned
