@@ -1,7 +1,5 @@
-use Prim.Native.Nat.{◌-◌}
 use mathlib.Core.Path.{refl, sym, ◌∙◌}
 use native.Mathlib.Omega.{arith}
-use borrow.Author.Tests.{not-true, not-false}
 use Rattle.lines.proofs.LfLaws.{find-le}
 use Rattle.forms.proofs.PrimaryLaws.{idents-stop, idents-last, idents-on}
 use Rattle.forms.proofs.all_idents.Goals as goal

@@ -1,4 +1,3 @@
-use Prim.Native.Nat.{◌-◌}
 use native.Mathlib.Omega.{arith}
 use Rattle.forms.proofs.BreaksLaws.{start-here, start-on, start-end}
 use Rattle.forms.proofs.find_start.Goals as goal

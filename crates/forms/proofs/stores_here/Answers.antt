@@ -1,6 +1,5 @@
 use mathlib.Core.Path.{sym, ◌∙◌}
 use mathlib.Core.List.{[], ◌∷◌}
-use borrow.Author.Tests.{not-true, not-false}
 use Rattle.forms.proofs.BreaksLaws.{front-other, front-then}
 use Rattle.forms.proofs.stores_here.Goals as goal
 

@@ -1,6 +1,5 @@
 use mathlib.Core.Path.{sym, ◌∙◌}
 use mathlib.Core.List.{[], ◌∷◌}
-use borrow.Author.Tests.{not-true, not-false}
 use Rattle.lines.proofs.Tests.{so}
 use Rattle.forms.proofs.BreaksLaws.{here-store, here-rest, front-other, front-then}
 use Rattle.forms.proofs.writes_here.Goals as goal
