@@ -1,11 +1,10 @@
-use Prim.Native.Nat.{◌-◌, ◌+◌, ◌≤◌, ◌^◌}
+use Prim.Native.Nat.{◌+◌, ◌≤◌, ◌^◌}
 use mathlib.Core.Path.{sym, subst}
 use native.Mathlib.Omega.{arith}
 use Rattle.records.specs.declared.LineRec.{LineRec}
 use Rattle.records.specs.Inner.Records.{start_below}
 use Rattle.records.proofs.Shown.{window-start, window-done, window-lt, window_on, window-end}
 use Rattle.records.proofs.fill.Goals as goal
-
 
 pub overflow_sub-n : goal.overflow_sub-n
 overflow_sub-n c = omega (arith, c.requires.0.0)

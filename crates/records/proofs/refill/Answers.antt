@@ -4,7 +4,6 @@ use native.Mathlib.Omega.{arith}
 use borrow.Author.Tests.{lt-ltb, le-ltb}
 use Rattle.records.proofs.refill.Goals as goal
 
-
 pub returns-then-k-past : goal.returns-then-k-past
 returns-then-k-past c =
     let a = c.args in
