@@ -1,5 +1,5 @@
 -- Laws of the two sides of an assignment. Assumes nothing.
-use Prim.Native.Nat.{ℕ, zero, suc, ◌+◌, ◌-◌, ◌≤◌, ◌<◌}
+use Prim.Native.Nat.{ℕ, suc, ◌+◌, ◌-◌, ◌≤◌, ◌<◌}
 use mathlib.Core.Path.{◌≡◌, refl, sym, ap, ◌∙◌}
 use mathlib.Core.Bool.{Bool, true, false, cond, ◌&&◌}
 use mathlib.Core.List.{List, [], ◌∷◌}
@@ -14,13 +14,12 @@ use Rattle.lines.proofs.Tests.{and_left, and_right}
 use Rattle.lines.proofs.LfLaws.{rest_of}
 use Rattle.text.specs.Trim.{from_of, to_of, to_end, trim_of}
 use Rattle.text.specs.declared.Span.{Span}
-use Rattle.text.proofs.Trims.{from_of-le, to_end-le, trim-part}
+use Rattle.text.proofs.Trims.{to_end-le, trim-part}
 use Rattle.parse.specs.Inner.Parse.{plain_byte}
 use Rattle.parse.proofs.Plain.{starts-plain}
 use Rattle.parse.proofs.PlainLine.{spaced-to, spaced-from, spaced-end}
 use Rattle.parse.proofs.Shut.{drop-take}
 use Rattle.reading.specs.declared.Sides.{Sides}
-use Rattle.reading.specs.declared.Assign.{Assign}
 use Rattle.reading.specs.declared.Assign.TheVariants.{Split, None}
 use Rattle.reading.specs.Assign.{unended, is_assign, left_of, right_of}
 use Rattle.reading.specs.Inner.Assign.{split_at, plain_sides, sides_of, assign_of}

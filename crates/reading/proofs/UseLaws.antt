@@ -1,8 +1,8 @@
 -- Laws of what lines read and store. Assumes nothing.
 use Prim.Native.Nat.{ℕ, ◌+◌, ◌≤◌, ◌<◌, min}
-use mathlib.Core.Path.{◌≡◌, refl, sym, ap, ◌∙◌}
+use mathlib.Core.Path.{◌≡◌, sym, ap, ◌∙◌}
 use mathlib.Core.Bool.{Bool, true, false, ◌||◌}
-use mathlib.Core.List.{List, [], ◌∷◌, ◌++◌}
+use mathlib.Core.List.{List, ◌∷◌}
 use lib.ListN.{length, drop}
 use Rattle.lines.specs.Lf.{part, up_to, lines_of}
 use Rattle.lines.proofs.LfLaws.{lines-at, lines_end}
