@@ -3,9 +3,10 @@ use mathlib.Core.Path.{sym, ◌∙◌}
 use Rattle.lines.proofs.OutLaws.{wrote-once}
 use Rattle.place.proofs.Fills.{filled-once}
 use Rattle.calls.proofs as calls
+use Rattle.calls.specs.contracts as said
 use Rattle.determined.proofs.Outcomes.{Determined, fixed-by, one, more}
 
-pub rebuild-calls-fixed : Determined calls.rebuild_calls.ended (λ κs z. z) calls.rebuild_calls.Reads.ensures
+pub rebuild-calls-fixed : Determined said.rebuild_calls.ended (λ κs z. z) calls.rebuild_calls.Reads.ensures
 rebuild-calls-fixed = fixed-by calls.rebuild_calls.Reads.Learnt (λ w κs a x. more w (more w (more w (more w (more w (one w)))))) (λ κs a x y l m.
     let p = l.1.1.0 in
     let q = m.1.1.0 in

@@ -2,46 +2,47 @@
 use mathlib.Core.Path.{sym, ◌∙◌}
 use Rattle.lines.proofs.OutLaws.{wrote-once}
 use Rattle.lexical.proofs as lexical
+use Rattle.lexical.specs.contracts as said
 use Rattle.determined.proofs.Outcomes.{Determined, fixed}
 
-pub token-at-fixed : Determined lexical.token_at.ended (λ κs z. z) lexical.token_at.Reads.ensures
+pub token-at-fixed : Determined said.token_at.ended (λ κs z. z) lexical.token_at.Reads.ensures
 token-at-fixed = fixed lexical.token_at.Reads.Learnt (λ κs a x y l m. l ∙ sym m)
 
-pub quote-end-fixed : Determined lexical.quote_end.ended (λ κs z. z) lexical.quote_end.Reads.ensures
+pub quote-end-fixed : Determined said.quote_end.ended (λ κs z. z) lexical.quote_end.Reads.ensures
 quote-end-fixed = fixed lexical.quote_end.Reads.Learnt (λ κs a x y l m. l ∙ sym m)
 
-pub quote-shut-fixed : Determined lexical.quote_shut.ended (λ κs z. z) lexical.quote_shut.Reads.ensures
+pub quote-shut-fixed : Determined said.quote_shut.ended (λ κs z. z) lexical.quote_shut.Reads.ensures
 quote-shut-fixed = fixed lexical.quote_shut.Reads.Learnt (λ κs a x y l m. l ∙ sym m)
 
-pub push-fixed : Determined lexical.push.ended (λ κs z. z) lexical.push.Reads.ensures
+pub push-fixed : Determined said.push.ended (λ κs z. z) lexical.push.Reads.ensures
 push-fixed = fixed lexical.push.Reads.Learnt (λ κs a x y l m. l ∙ sym m)
 
-pub step-at-fixed : Determined lexical.step_at.ended (λ κs z. z) lexical.step_at.Reads.ensures
+pub step-at-fixed : Determined said.step_at.ended (λ κs z. z) lexical.step_at.Reads.ensures
 step-at-fixed = fixed lexical.step_at.Reads.Learnt (λ κs a x y l m. l ∙ sym m)
 
-pub strip-lexical-fixed : Determined lexical.strip_lexical.ended (λ κs z. z) lexical.strip_lexical.Reads.ensures
+pub strip-lexical-fixed : Determined said.strip_lexical.ended (λ κs z. z) lexical.strip_lexical.Reads.ensures
 strip-lexical-fixed = fixed lexical.strip_lexical.Reads.Learnt (λ κs a x y l m. wrote-once l m)
 
-pub phi-rhs-pure-fixed : Determined lexical.phi_rhs_pure.ended (λ κs z. z) lexical.phi_rhs_pure.Reads.ensures
+pub phi-rhs-pure-fixed : Determined said.phi_rhs_pure.ended (λ κs z. z) lexical.phi_rhs_pure.Reads.ensures
 phi-rhs-pure-fixed = fixed lexical.phi_rhs_pure.Reads.Learnt (λ κs a x y l m. l ∙ sym m)
 
-pub next-word-fixed : Determined lexical.next_word.ended (λ κs z. z) lexical.next_word.Reads.ensures
+pub next-word-fixed : Determined said.next_word.ended (λ κs z. z) lexical.next_word.Reads.ensures
 next-word-fixed = fixed lexical.next_word.Reads.Learnt (λ κs a x y l m. l ∙ sym m)
 
-pub plain-end-fixed : Determined lexical.plain_end.ended (λ κs z. z) lexical.plain_end.Reads.ensures
+pub plain-end-fixed : Determined said.plain_end.ended (λ κs z. z) lexical.plain_end.Reads.ensures
 plain-end-fixed = fixed lexical.plain_end.Reads.Learnt (λ κs a x y l m. l ∙ sym m)
 
-pub plain-to-fixed : Determined lexical.plain_to.ended (λ κs z. z) lexical.plain_to.Reads.ensures
+pub plain-to-fixed : Determined said.plain_to.ended (λ κs z. z) lexical.plain_to.Reads.ensures
 plain-to-fixed = fixed lexical.plain_to.Reads.Learnt (λ κs a x y l m. l ∙ sym m)
 
-pub plain-run-fixed : Determined lexical.plain_run.ended (λ κs z. z) lexical.plain_run.Reads.ensures
+pub plain-run-fixed : Determined said.plain_run.ended (λ κs z. z) lexical.plain_run.Reads.ensures
 plain-run-fixed = fixed lexical.plain_run.Reads.Learnt (λ κs a x y l m. λ i. record { end = (l.0 ∙ sym m.0) i; tail = (l.1 ∙ sym m.1) i })
 
-pub low-last-fixed : Determined lexical.low_last.ended (λ κs z. z) lexical.low_last.Reads.ensures
+pub low-last-fixed : Determined said.low_last.ended (λ κs z. z) lexical.low_last.Reads.ensures
 low-last-fixed = fixed lexical.low_last.Reads.Learnt (λ κs a x y l m. l ∙ sym m)
 
-pub front-tail-fixed : Determined lexical.front_tail.ended (λ κs z. z) lexical.front_tail.Reads.ensures
+pub front-tail-fixed : Determined said.front_tail.ended (λ κs z. z) lexical.front_tail.Reads.ensures
 front-tail-fixed = fixed lexical.front_tail.Reads.Learnt (λ κs a x y l m. l ∙ sym m)
 
-pub rest-in-fixed : Determined lexical.rest_in.ended (λ κs z. z) lexical.rest_in.Reads.ensures
+pub rest-in-fixed : Determined said.rest_in.ended (λ κs z. z) lexical.rest_in.Reads.ensures
 rest-in-fixed = fixed lexical.rest_in.Reads.Learnt (λ κs a x y l m. l ∙ sym m)

@@ -63,7 +63,7 @@ outcomes-same {T} {X} {see} {e} d w κs a x y =
 -- of a value that is bound at exit, an equation; of one that is as it was passed, none
 abbrev pub also : {D : Type 0} (e : Exit D) (d : D) → Last e d → Last e d → List (Type 0) → List (Type 0)
 also unchanged d v w rest = rest
-also (leaves L l S s) d v w rest = (v ≡ w) ∷ rest
+also (leaves L l S s z) d v w rest = (v ≡ w) ∷ rest
 
 -- and so for all arguments
 abbrev pub equations : {n : ℕ} (κs : Lfts n) (ss : List (Slot n)) (ks : Kepts ss) (a : Denots (types_at ss κs)) → Fins κs ss ks a → Fins κs ss ks a → List (Type 0) → List (Type 0)
@@ -72,7 +72,7 @@ equations κs (s ∷ ss) ks a v w rest = also ((s.row κs).exit ks.0) a.0 v.0 w.
 
 also-same : {D : Type 0} (e : Exit D) (d : D) (v w : Last e d) (rest : List (Type 0)) → AllOf (also e d v w rest) → (v ≡ w) × AllOf rest
 also-same unchanged d v w rest p = (refl, p)
-also-same (leaves L l S s) d v w rest p = (All-head (v ≡ w) rest p, All-tail (v ≡ w) rest p)
+also-same (leaves L l S s z) d v w rest p = (All-head (v ≡ w) rest p, All-tail (v ≡ w) rest p)
 
 all_same : {n : ℕ} (κs : Lfts n) (ss : List (Slot n)) (ks : Kepts ss) (a : Denots (types_at ss κs)) (v w : Fins κs ss ks a) (rest : List (Type 0)) →
     AllOf (equations κs ss ks a v w rest) → (v ≡ w) × AllOf rest

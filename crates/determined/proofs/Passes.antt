@@ -5,11 +5,12 @@ use Rattle.reading.specs.Reading.{reading_of}
 use Rattle.passes.specs.Passes.{result_of, origins_of}
 use Rattle.passes.specs.Inner.Passes.{steps_of, steps_fates}
 use Rattle.passes.proofs as passes
+use Rattle.passes.specs.contracts as said
 use Rattle.determined.proofs.Outcomes.{Determined, fixed-by, one, more}
 use Rattle.determined.proofs.Limits.{out_once}
 
 -- work buffers and tables that are all 0 are the same, each in its place
-pub work-fixed : Determined passes.work.ended (λ κs z. z) passes.work.Reads.ensures
+pub work-fixed : Determined said.work.ended (λ κs z. z) passes.work.Reads.ensures
 work-fixed = fixed-by passes.work.Reads.Learnt (λ w κs a x. more w (more w (more w (one w)))) (λ κs a x y l m.
     let p = l.0 ∙ sym m.0 in
     let g = l.1.0.1 in

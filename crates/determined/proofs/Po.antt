@@ -6,6 +6,7 @@ use Rattle.po.specs.declared.Po.{Po}
 use Rattle.po.specs.declared.Strings.{Strings}
 use Rattle.po.specs.Answers.{po_after, index_after, read_after}
 use Rattle.po.proofs as po
+use Rattle.po.specs.contracts as said
 use Rattle.determined.proofs.Outcomes.{Determined, fixed, fixed-by, one, more}
 
 -- what the output holds follows from the answer
@@ -18,21 +19,21 @@ module _ {A : Type 0} (f : A → List ℕ → List ℕ) {r s w : A} {d x y : Lis
   room-once : x ≡ f r d → y ≡ f s d → x ≡ y
   room-once a b = a ∙ ap (λ (v : A). f v d) (p ∙ sym q) ∙ sym b
 
-pub first-flaw-fixed : Determined po.first_flaw.ended (λ κs z. z) po.first_flaw.Reads.ensures
+pub first-flaw-fixed : Determined said.first_flaw.ended (λ κs z. z) po.first_flaw.Reads.ensures
 first-flaw-fixed = fixed po.first_flaw.Reads.Learnt (λ κs a x y l m. l ∙ sym m)
 
-pub number-of-fixed : Determined po.number_of.ended (λ κs z. z) po.number_of.Reads.ensures
+pub number-of-fixed : Determined said.number_of.ended (λ κs z. z) po.number_of.Reads.ensures
 number-of-fixed = fixed po.number_of.Reads.Learnt (λ κs a x y l m. l ∙ sym m)
 
-pub read-number-of-fixed : Determined po.read_number_of.ended (λ κs z. z) po.read_number_of.Reads.ensures
+pub read-number-of-fixed : Determined said.read_number_of.ended (λ κs z. z) po.read_number_of.Reads.ensures
 read-number-of-fixed = fixed po.read_number_of.Reads.Learnt (λ κs a x y l m. l ∙ sym m)
 
-pub write-po-fixed : Determined po.write_po.ended (λ κs z. z) po.write_po.Reads.ensures
+pub write-po-fixed : Determined said.write_po.ended (λ κs z. z) po.write_po.Reads.ensures
 write-po-fixed =
     fixed-by po.write_po.Reads.Learnt (λ w κs a x. more w (more w (one w)))
     (λ κs a x y l m. (room-once (λ r d. index_after r d) l.0 m.0 l.1.0 m.1.0, (out_once (λ r t d. po_after r t d) l.0 m.0 l.1.1 m.1.1, l.0 ∙ sym m.0)))
 
-pub read-po-fixed : Determined po.read_po.ended (λ κs z. z) po.read_po.Reads.ensures
+pub read-po-fixed : Determined said.read_po.ended (λ κs z. z) po.read_po.Reads.ensures
 read-po-fixed =
     fixed-by po.read_po.Reads.Learnt (λ w κs a x. more w (more w (one w)))
     (λ κs a x y l m. (l.1.0 ∙ sym m.1.0, (out_once (λ r t d. read_after r t d) l.0 m.0 l.1.1 m.1.1, l.0 ∙ sym m.0)))
