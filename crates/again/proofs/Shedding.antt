@@ -196,6 +196,9 @@ out-nil run = refl
 near-stays : (ls ms run run' : List (List ℕ)) → Near ls ms → Alike run run' → out ls run ≡ ls → out ms run' ≡ ms
 near-stays [] [] run run' none h e = out-nil run'
 near-stays ([] ∷ []) [] run run' blank h e = out-nil run'
+near-stays [] (l' ∷ ms) run run' n h e = elim n [ ]
+near-stays ([] ∷ (m ∷ ls)) [] run run' n h e = elim n [ ]
+near-stays ((x ∷ l) ∷ ls) [] run run' n h e = elim n [ ]
 near-stays (l ∷ ls) (l' ∷ ms) run run' (line k n) h e =
     let R : List (List ℕ) = region_at l ls run in
     let R' : List (List ℕ) = region_at l' ms run' in
