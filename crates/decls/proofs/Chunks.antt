@@ -4,13 +4,12 @@ use mathlib.Core.Path.{◌≡◌, refl, sym, ap, ◌∙◌}
 use mathlib.Core.Bool.{Bool, true, false, cond}
 use mathlib.Core.List.{List, [], ◌∷◌, ◌++◌, append_assoc}
 use native.Mathlib.Omega.{arith}
-use native.Mathlib.Numerals.{add-one}
 use borrow.Author.Tests.{eqb-true, lt-ltb}
 use lib.Dec.{eqb}
 use lib.ListN.{length, take, drop, get_or, length-take, length-drop, length-append, drop_of_length-le}
 use lib.Seq.{drop-drop, get_or-drop, take-add, take-take}
 use Rattle.lines.specs.Lf.{part, up_to, lines_of, unlines}
-use Rattle.lines.proofs.LfLaws.{up_to-le, lines-first, part-more, part_none, rest_of}
+use Rattle.lines.proofs.LfLaws.{up_to-le, lines-first, part-more, rest_of}
 use Rattle.lines.proofs.StepLaws.{ends_more, missing_lf, lines-text}
 use Rattle.parse.proofs.Plain.{up-take}
 

@@ -1,5 +1,5 @@
 -- A line that is no declaration uses the registers that its runs name, the one that it stores with them. Assumes nothing.
-use Prim.Native.Nat.{ℕ, zero, suc, ◌+◌, ◌-◌, ◌≤◌, ◌<◌}
+use Prim.Native.Nat.{ℕ, suc, ◌+◌, ◌-◌, ◌≤◌, ◌<◌}
 use mathlib.Core.Path.{◌≡◌, refl, sym, ap, ◌∙◌}
 use mathlib.Core.Bool.{Bool, true, false, cond, not, ◌&&◌}
 use mathlib.Core.List.{List, [], ◌∷◌, ◌++◌, append_assoc}
@@ -12,7 +12,7 @@ use lib.Seq.{drop-cons, drop-drop, take-take}
 use Rattle.lines.specs.Lf.{part, up_to, ends_in}
 use Rattle.lines.proofs.Tests.{no, and_left}
 use Rattle.text.specs.Class.{is_name}
-use Rattle.text.specs.Trim.{from_of, to_of, to_end, trim_start, trim_of}
+use Rattle.text.specs.Trim.{from_of, to_end, trim_of}
 use Rattle.text.proofs.Trims.{to_end-le, trim-part}
 use Rattle.names.specs.Names.{reg_of}
 use Rattle.names.specs.declared.RegName.{RegName}

@@ -1,5 +1,5 @@
 -- The moves that `prune_decls` hands out: lines that it holds back stay, and a declaration is gone where nothing was written of it. Assumes nothing.
-use Prim.Native.Nat.{ℕ, suc, ◌+◌, ◌-◌, ◌≤◌, ◌<◌, min}
+use Prim.Native.Nat.{ℕ, suc, ◌+◌, ◌≤◌, ◌<◌, min}
 use mathlib.Core.Path.{◌≡◌, refl, sym, ap, ◌∙◌}
 use mathlib.Core.Bool.{Bool, true, false, cond}
 use mathlib.Core.List.{List, [], ◌∷◌, ◌++◌, append_assoc, append-nil}
@@ -7,7 +7,7 @@ use native.Mathlib.Omega.{arith}
 use lib.Dec.{eqb}
 use lib.ListN.{length, take, drop, replicate, length-append, length-replicate}
 use Rattle.lines.specs.Lf.{part, up_to, lines_of, parts_of, cut_on}
-use Rattle.lines.specs.Acts.{keep, gone}
+use Rattle.lines.specs.Acts.{keep}
 use Rattle.lines.specs.Inner.Out.{Wrote}
 use Rattle.lines.proofs.LfLaws.{lines-at, lines_end, part_none}
 use Rattle.lines.proofs.OutLaws.{Writing, writing_start, writing-as, writing-put, writing-room, writing-end, wrote_as, zeros-more}

@@ -1,26 +1,23 @@
 -- Laws of the table of the registers that lines use. Assumes nothing.
 use Prim.Native.Nat.{ℕ, zero, suc, ◌+◌, ◌≤◌, ◌<◌, min}
 use mathlib.Core.Path.{◌≡◌, refl, sym, ap, ◌∙◌}
-use mathlib.Core.Bool.{Bool, true, false, cond, not, ◌&&◌, ◌||◌}
+use mathlib.Core.Bool.{Bool, true, false, cond, ◌||◌}
 use mathlib.Core.List.{List, [], ◌∷◌, ◌++◌}
 use native.Mathlib.Omega.{arith}
-use native.Mathlib.Numerals.{add-one}
 use borrow.Author.Tests.{lt-ltb, le-ltb, ltb-true, ltb-false, eq-eqb, ne_eqb, eqb-true, eqb-false}
 use lib.Dec.{eqb, ltb}
-use lib.ListN.{length, drop, get_or, set, replicate, drop_of_length-le}
-use lib.Seq.{drop-cons}
+use lib.ListN.{length, drop, get_or, set, replicate}
 use Rattle.lines.specs.Lf.{part, up_to, lines_of}
-use Rattle.lines.proofs.Tests.{no, or-true, or-false}
-use Rattle.lines.proofs.LfLaws.{lines-at, lines_end, part-more, part_none}
+use Rattle.lines.proofs.Tests.{or-true, or-false}
+use Rattle.lines.proofs.LfLaws.{lines-at, lines_end}
 use Rattle.text.specs.Class.{is_name}
-use Rattle.text.specs.Trim.{trim_of}
 use Rattle.names.specs.Names.{reg_of, reg_is}
 use Rattle.names.specs.declared.RegName.{RegName}
 use Rattle.names.specs.declared.RegName.TheVariants as name
-use Rattle.parse.specs.Parse.{is_decl, parse_of, text_of}
+use Rattle.parse.specs.Parse.{parse_of, text_of}
 use Rattle.parse.specs.declared.Line.{Line}
 use Rattle.parse.specs.declared.Line.TheVariants as line
-use Rattle.words.specs.Runs.{flush, runs_go, runs, count_by, reads_of}
+use Rattle.words.specs.Runs.{flush, runs, count_by, reads_of}
 use Rattle.place.specs.Region.{is_header, until_header, region}
 use Rattle.place.specs.Inner.Region.{up_header, region_len}
 use Rattle.place.proofs.Regions.{past, end-stop, end_on, end-end, region-at, region-le}

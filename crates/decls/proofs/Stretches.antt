@@ -1,5 +1,5 @@
 -- Lines that are no declarations, one after the other, are marked at once: the runs of a stretch of lines are the runs of its lines. Assumes nothing.
-use Prim.Native.Nat.{ℕ, ◌+◌, ◌-◌, ◌≤◌, ◌<◌, min}
+use Prim.Native.Nat.{ℕ, ◌+◌, ◌<◌, min}
 use mathlib.Core.Path.{◌≡◌, refl, sym, ap, ◌∙◌}
 use mathlib.Core.Bool.{Bool, true, false}
 use mathlib.Core.List.{List, [], ◌∷◌, ◌++◌, append_assoc}
@@ -14,7 +14,7 @@ use Rattle.names.specs.Names.{reg_of}
 use Rattle.parse.specs.Parse.{is_decl}
 use Rattle.words.specs.Runs.{runs_go, runs}
 use Rattle.place.specs.Region.{is_header}
-use Rattle.decls.specs.Inner.Seen.{mark_name, mark_runs, mark_line, Quiet, quiet_none, quiet-more}
+use Rattle.decls.specs.Inner.Seen.{mark_name, mark_runs, Quiet, quiet_none, quiet-more}
 use Rattle.decls.proofs.TrimRuns.{back-runs}
 use Rattle.decls.proofs.SeenLaws.{RegionInv, runs-length, region-on, quiet-le}
 use Rattle.decls.proofs.LineRuns.{mid-runs, line-runs-marked}

@@ -1,4 +1,4 @@
-use mathlib.Core.Path.{sym, ap, ◌∙◌}
+use mathlib.Core.Path.{ap, ◌∙◌}
 use Rattle.lines.specs.Lf.{lines_of}
 use Rattle.decls.specs.Inner.Seen.{seen_stays}
 use Rattle.decls.proofs.stays_in.Goals as goal

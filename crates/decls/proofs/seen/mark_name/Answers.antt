@@ -1,4 +1,4 @@
-use mathlib.Core.Path.{sym, ap, ◌∙◌}
+use mathlib.Core.Path.{ap, ◌∙◌}
 use Rattle.names.specs.declared.RegName.{RegName}
 use Rattle.decls.specs.Inner.Seen.{mark_name}
 use Rattle.decls.proofs.seen.mark_name.Goals as goal

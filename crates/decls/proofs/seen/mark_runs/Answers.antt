@@ -1,4 +1,3 @@
-use Prim.Native.Nat.{◌-◌}
 use native.Mathlib.Omega.{arith}
 use Rattle.decls.proofs.MarkRuns.{from_start, from_on, from_end}
 use Rattle.decls.proofs.seen.mark_runs.Goals as goal
