@@ -20,66 +20,6 @@ place_of-requires c = tt
 pub number_of-requires : goal.number_of-requires
 number_of-requires c = tt
 
-pub shape_of-a : goal.shape_of-a
-shape_of-a c = c.optimize_large-answer.auto.1.1.1.0
-
-pub shape_of-b : goal.shape_of-b
-shape_of-b c = c.optimize_large-answer.auto.1.1.1.1.0
-
-pub shape_of-c : goal.shape_of-c
-shape_of-c c = c.optimize_large-answer.auto.1.1.1.1.1.0
-
-pub shape_of-d : goal.shape_of-d
-shape_of-d c = c.optimize_large-answer.auto.1.1.1.1.1.1.0
-
-pub shape_of-e : goal.shape_of-e
-shape_of-e c = c.optimize_large-answer.auto.1.1.1.1.1.1.1.0
-
-pub shape_of-f : goal.shape_of-f
-shape_of-f c = c.optimize_large-answer.auto.1.1.1.1.1.1.1.1.0
-
-pub shape_of-g : goal.shape_of-g
-shape_of-g c = c.optimize_large-answer.auto.1.1.1.1.1.1.1.1.1.0
-
-pub shape_of-h : goal.shape_of-h
-shape_of-h c = c.optimize_large-answer.auto.1.1.1.1.1.1.1.1.1.1.0
-
-pub shape_of-u : goal.shape_of-u
-shape_of-u c = c.optimize_large-answer.auto.1.1.1.1.1.1.1.1.1.1.1.0
-
-pub shape_of-v : goal.shape_of-v
-shape_of-v c = c.optimize_large-answer.auto.1.1.1.1.1.1.1.1.1.1.1.1.0
-
-pub shape_of-w : goal.shape_of-w
-shape_of-w c = c.optimize_large-answer.auto.1.1.1.1.1.1.1.1.1.1.1.1.1.0
-
-pub shape_of-x : goal.shape_of-x
-shape_of-x c = c.optimize_large-answer.auto.1.1.1.1.1.1.1.1.1.1.1.1.1.1.0
-
-pub shape_of-p : goal.shape_of-p
-shape_of-p c = c.optimize_large-answer.auto.1.1.1.1.1.1.1.1.1.1.1.1.1.1.1.0
-
-pub shape_of-q : goal.shape_of-q
-shape_of-q c = c.optimize_large-answer.auto.1.1.1.1.1.1.1.1.1.1.1.1.1.1.1.1.0
-
-pub shape_of-r : goal.shape_of-r
-shape_of-r c = c.optimize_large-answer.auto.1.1.1.1.1.1.1.1.1.1.1.1.1.1.1.1.1.0
-
-pub shape_of-t : goal.shape_of-t
-shape_of-t c = c.optimize_large-answer.auto.1.1.1.1.1.1.1.1.1.1.1.1.1.1.1.1.1.1.0
-
-pub shape_of-own : goal.shape_of-own
-shape_of-own c = c.optimize_large-answer.auto.1.1.1.1.1.1.1.1.1.1.1.1.1.1.1.1.1.1.1.0
-
-pub shape_of-table : goal.shape_of-table
-shape_of-table c = c.optimize_large-answer.auto.1.1.1.1.1.1.1.1.1.1.1.1.1.1.1.1.1.1.1.1.0
-
-pub shape_of-out : goal.shape_of-out
-shape_of-out c = c.optimize_large-answer.auto.1.1.1.1.1.1.1.1.1.1.1.1.1.1.1.1.1.1.1.1.1.0
-
-pub shape_of-orig : goal.shape_of-orig
-shape_of-orig c = c.optimize_large-answer.auto.1.1.1.1.1.1.1.1.1.1.1.1.1.1.1.1.1.1.1.1.1.1.0
-
 pub returns : goal.returns
 returns c =
     let g = c.args in

@@ -13,30 +13,6 @@ place_of-requires c = tt
 pub number_of-requires : goal.number_of-requires
 number_of-requires c = tt
 
-pub shape_of-a : goal.shape_of-a
-shape_of-a c = c.run_pass-answer.auto.1.1.1.0
-
-pub shape_of-b : goal.shape_of-b
-shape_of-b c = c.run_pass-answer.auto.1.1.1.1.0
-
-pub shape_of-c : goal.shape_of-c
-shape_of-c c = c.run_pass-answer.auto.1.1.1.1.1.0
-
-pub shape_of-d : goal.shape_of-d
-shape_of-d c = c.run_pass-answer.auto.1.1.1.1.1.1.0
-
-pub shape_of-e : goal.shape_of-e
-shape_of-e c = c.run_pass-answer.auto.1.1.1.1.1.1.1.0
-
-pub shape_of-u : goal.shape_of-u
-shape_of-u c = c.run_pass-answer.auto.1.1.1.1.1.1.1.1.0
-
-pub shape_of-out : goal.shape_of-out
-shape_of-out c = c.run_pass-answer.auto.1.1.1.1.1.1.1.1.1.0
-
-pub shape_of-orig : goal.shape_of-orig
-shape_of-orig c = c.run_pass-answer.auto.1.1.1.1.1.1.1.1.1.1.0
-
 pub returns : goal.returns
 returns c =
     let o = c.run_pass-answer in

@@ -46,64 +46,22 @@ pub work-requires : goal.work-requires
 work-requires c = let p = c.requires in let a = c.args in let l = p.1.0 in let q = c.byte_size-n.ensures in (p.0, (omega (arith, sized-part a.a.now q l.a-long), (record { b-size = omega (arith, sized-part a.b.now q l.b-long); c-size = omega (arith, sized-part a.c.now q l.c-long); d-size = omega (arith, sized-part a.d.now q l.d-long); e-size = omega (arith, sized-part a.e.now q l.e-long); u-size = omega (arith, stated _ a.u.now l.u-long); u-narrow = omega (arith, stated _ a.u.now l.u-long, p.0.sane.bytes-reach) }, p.1.1)))
 
 pub shape_of-a : goal.shape_of-a
-shape_of-a c = same-part c.byte_size-n.result c.args.a.now c.work.new.1.1.0 (omega (arith, c.byte_size-n.ensures, c.requires.1.0.a-long)) c.work.auto.1.1.0
+shape_of-a c = same-part c.byte_size-n.result c.args.a.now c.work.new.a (omega (arith, c.byte_size-n.ensures, c.requires.1.0.a-long)) c.work.auto.a
 
 pub shape_of-b : goal.shape_of-b
-shape_of-b c = same-part c.byte_size-n.result c.args.b.now c.work.new.1.1.1.0 (omega (arith, c.byte_size-n.ensures, c.requires.1.0.b-long)) c.work.auto.1.1.1.0
+shape_of-b c = same-part c.byte_size-n.result c.args.b.now c.work.new.b (omega (arith, c.byte_size-n.ensures, c.requires.1.0.b-long)) c.work.auto.b
 
 pub shape_of-c : goal.shape_of-c
-shape_of-c c = same-part c.byte_size-n.result c.args.c.now c.work.new.1.1.1.1.0 (omega (arith, c.byte_size-n.ensures, c.requires.1.0.c-long)) c.work.auto.1.1.1.1.0
+shape_of-c c = same-part c.byte_size-n.result c.args.c.now c.work.new.c (omega (arith, c.byte_size-n.ensures, c.requires.1.0.c-long)) c.work.auto.c
 
 pub shape_of-d : goal.shape_of-d
-shape_of-d c = same-part c.byte_size-n.result c.args.d.now c.work.new.1.1.1.1.1.0 (omega (arith, c.byte_size-n.ensures, c.requires.1.0.d-long)) c.work.auto.1.1.1.1.1.0
+shape_of-d c = same-part c.byte_size-n.result c.args.d.now c.work.new.d (omega (arith, c.byte_size-n.ensures, c.requires.1.0.d-long)) c.work.auto.d
 
 pub shape_of-e : goal.shape_of-e
-shape_of-e c = same-part c.byte_size-n.result c.args.e.now c.work.new.1.1.1.1.1.1.0 (omega (arith, c.byte_size-n.ensures, c.requires.1.0.e-long)) c.work.auto.1.1.1.1.1.1.0
-
-pub shape_of-f : goal.shape_of-f
-shape_of-f c = c.work.auto.1.1.1.1.1.1.1.0
-
-pub shape_of-g : goal.shape_of-g
-shape_of-g c = c.work.auto.1.1.1.1.1.1.1.1.0
-
-pub shape_of-h : goal.shape_of-h
-shape_of-h c = c.work.auto.1.1.1.1.1.1.1.1.1.0
+shape_of-e c = same-part c.byte_size-n.result c.args.e.now c.work.new.e (omega (arith, c.byte_size-n.ensures, c.requires.1.0.e-long)) c.work.auto.e
 
 pub shape_of-u : goal.shape_of-u
-shape_of-u c = same-part _ c.args.u.now c.work.new.1.1.1.1.1.1.1.1.1.1.0 c.requires.1.0.u-long c.work.auto.1.1.1.1.1.1.1.1.1.1.0
-
-pub shape_of-v : goal.shape_of-v
-shape_of-v c = c.work.auto.1.1.1.1.1.1.1.1.1.1.1.0
-
-pub shape_of-w : goal.shape_of-w
-shape_of-w c = c.work.auto.1.1.1.1.1.1.1.1.1.1.1.1.0
-
-pub shape_of-x : goal.shape_of-x
-shape_of-x c = c.work.auto.1.1.1.1.1.1.1.1.1.1.1.1.1.0
-
-pub shape_of-p : goal.shape_of-p
-shape_of-p c = c.work.auto.1.1.1.1.1.1.1.1.1.1.1.1.1.1.0
-
-pub shape_of-q : goal.shape_of-q
-shape_of-q c = c.work.auto.1.1.1.1.1.1.1.1.1.1.1.1.1.1.1.0
-
-pub shape_of-r : goal.shape_of-r
-shape_of-r c = c.work.auto.1.1.1.1.1.1.1.1.1.1.1.1.1.1.1.1.0
-
-pub shape_of-t : goal.shape_of-t
-shape_of-t c = c.work.auto.1.1.1.1.1.1.1.1.1.1.1.1.1.1.1.1.1.0
-
-pub shape_of-own : goal.shape_of-own
-shape_of-own c = c.work.auto.1.1.1.1.1.1.1.1.1.1.1.1.1.1.1.1.1.1.0
-
-pub shape_of-table : goal.shape_of-table
-shape_of-table c = c.work.auto.1.1.1.1.1.1.1.1.1.1.1.1.1.1.1.1.1.1.1.0
-
-pub shape_of-out : goal.shape_of-out
-shape_of-out c = c.work.auto.1.1.1.1.1.1.1.1.1.1.1.1.1.1.1.1.1.1.1.1.0
-
-pub shape_of-orig : goal.shape_of-orig
-shape_of-orig c = c.work.auto.1.1.1.1.1.1.1.1.1.1.1.1.1.1.1.1.1.1.1.1.1.0
+shape_of-u c = same-part _ c.args.u.now c.work.new.u c.requires.1.0.u-long c.work.auto.u
 
 pub returns : goal.returns
 returns c =
@@ -111,5 +69,5 @@ returns c =
     let l = c.requires.1.0 in
     let q = c.byte_size-n.ensures in
     let w = c.work.ensures in
-    let z = w.1.0.1 in
-    record { answer = w.0; memory = (w.1.0.0, record { a-wiped = wiped-part _ a.a.now q l.a-long z.a-blank; b-wiped = wiped-part _ a.b.now q l.b-long z.b-blank; c-wiped = wiped-part _ a.c.now q l.c-long z.c-blank; d-wiped = wiped-part _ a.d.now q l.d-long z.d-blank; e-wiped = wiped-part _ a.e.now q l.e-long z.e-blank; u-wiped = wiped-part _ a.u.now refl l.u-long z.u-blank }); records = w.1.1.0; tables = w.1.1.1 }
+    let z = w.memory.1 in
+    record { answer = w.answer; memory = (w.memory.0, record { a-wiped = wiped-part _ a.a.now q l.a-long z.a-blank; b-wiped = wiped-part _ a.b.now q l.b-long z.b-blank; c-wiped = wiped-part _ a.c.now q l.c-long z.c-blank; d-wiped = wiped-part _ a.d.now q l.d-long z.d-blank; e-wiped = wiped-part _ a.e.now q l.e-long z.e-blank; u-wiped = wiped-part _ a.u.now refl l.u-long z.u-blank }); records = w.records; tables = w.tables }

@@ -33,66 +33,6 @@ returns-then-number_of-ne0 c =
 pub run-requires : goal.run-requires
 run-requires c = let g = c.args in let L = g.m.limits in let F = g.m.form in let k = g.m.mode.0 in let t = g.text.now in let s = is_short L (length g.a.now) (length g.b.now) (length g.c.now) (length g.d.now) (length g.e.now) (length g.u.now) in let e = c.refused_task-refused.ensures ∙ ap (λ (x : Bool). in_mode k (checked L F x t (Done 0))) c.too_short-short.ensures in let h = done-by _ c.number_of.ensures c.if-number_of-ne0.false in let p = accepted-by L F s t (mode-done k (checked L F s t (Done 0)) (ap is_done (sym e) ∙ h)).1 in (accepted-within c.requires.0 p, (long-by L g.a.now g.b.now g.c.now g.d.now g.e.now g.u.now p.long-enough, c.requires.1))
 
-pub shape_of-a : goal.shape_of-a
-shape_of-a c = c.run.auto.1.1.0
-
-pub shape_of-b : goal.shape_of-b
-shape_of-b c = c.run.auto.1.1.1.0
-
-pub shape_of-c : goal.shape_of-c
-shape_of-c c = c.run.auto.1.1.1.1.0
-
-pub shape_of-d : goal.shape_of-d
-shape_of-d c = c.run.auto.1.1.1.1.1.0
-
-pub shape_of-e : goal.shape_of-e
-shape_of-e c = c.run.auto.1.1.1.1.1.1.0
-
-pub shape_of-f : goal.shape_of-f
-shape_of-f c = c.run.auto.1.1.1.1.1.1.1.0
-
-pub shape_of-g : goal.shape_of-g
-shape_of-g c = c.run.auto.1.1.1.1.1.1.1.1.0
-
-pub shape_of-h : goal.shape_of-h
-shape_of-h c = c.run.auto.1.1.1.1.1.1.1.1.1.0
-
-pub shape_of-u : goal.shape_of-u
-shape_of-u c = c.run.auto.1.1.1.1.1.1.1.1.1.1.0
-
-pub shape_of-v : goal.shape_of-v
-shape_of-v c = c.run.auto.1.1.1.1.1.1.1.1.1.1.1.0
-
-pub shape_of-w : goal.shape_of-w
-shape_of-w c = c.run.auto.1.1.1.1.1.1.1.1.1.1.1.1.0
-
-pub shape_of-x : goal.shape_of-x
-shape_of-x c = c.run.auto.1.1.1.1.1.1.1.1.1.1.1.1.1.0
-
-pub shape_of-p : goal.shape_of-p
-shape_of-p c = c.run.auto.1.1.1.1.1.1.1.1.1.1.1.1.1.1.0
-
-pub shape_of-q : goal.shape_of-q
-shape_of-q c = c.run.auto.1.1.1.1.1.1.1.1.1.1.1.1.1.1.1.0
-
-pub shape_of-r : goal.shape_of-r
-shape_of-r c = c.run.auto.1.1.1.1.1.1.1.1.1.1.1.1.1.1.1.1.0
-
-pub shape_of-t : goal.shape_of-t
-shape_of-t c = c.run.auto.1.1.1.1.1.1.1.1.1.1.1.1.1.1.1.1.1.0
-
-pub shape_of-own : goal.shape_of-own
-shape_of-own c = c.run.auto.1.1.1.1.1.1.1.1.1.1.1.1.1.1.1.1.1.1.0
-
-pub shape_of-table : goal.shape_of-table
-shape_of-table c = c.run.auto.1.1.1.1.1.1.1.1.1.1.1.1.1.1.1.1.1.1.1.0
-
-pub shape_of-out : goal.shape_of-out
-shape_of-out c = c.run.auto.1.1.1.1.1.1.1.1.1.1.1.1.1.1.1.1.1.1.1.1.0
-
-pub shape_of-orig : goal.shape_of-orig
-shape_of-orig c = c.run.auto.1.1.1.1.1.1.1.1.1.1.1.1.1.1.1.1.1.1.1.1.1.0
-
 pub returns : goal.returns
 returns c =
     let g = c.args in
@@ -106,4 +46,4 @@ returns c =
     let xs = result_of (steps_of (reading_of g.m.mode.0) g.m.from (g.m.to - g.m.from)) t in
     let m = mode-done k (checked L F s t (Done 0)) (ap is_done (sym e) ∙ h) in
     let w = c.run.ensures in
-    record { answer = answer-accepted L F k s t xs (length g.out.now) (length g.orig.now) m.0 (accepted-by L F s t m.1) w.0; memory = (w.1.0.0, all-wiped (length xs) (length g.out.now) (records_need F t) (length g.orig.now) w.0 w.1.0.1); records = w.1.1.0; tables = tables-wiped (length xs) (length g.out.now) (records_need F t) (length g.orig.now) w.0 w.1.1.1 }
+    record { answer = answer-accepted L F k s t xs (length g.out.now) (length g.orig.now) m.0 (accepted-by L F s t m.1) w.answer; memory = (w.memory.0, all-wiped (length xs) (length g.out.now) (records_need F t) (length g.orig.now) w.answer w.memory.1); records = w.records; tables = tables-wiped (length xs) (length g.out.now) (records_need F t) (length g.orig.now) w.answer w.tables }

@@ -27,72 +27,12 @@ returns-then-short c =
 pub tidy_lined-requires : goal.tidy_lined-requires
 tidy_lined-requires c = let k = tall-by large (sym c.tables_short-short.ensures ∙ c.if-short.false) in rw (c.task-m.ensures, c.large.ensures) (sane-large, ((omega arith, omega arith), (k.0, k.1)))
 
-pub shape_of-a : goal.shape_of-a
-shape_of-a c = c.tidy_lined.auto.1.1.1.1.1.1.0
-
-pub shape_of-b : goal.shape_of-b
-shape_of-b c = c.tidy_lined.auto.1.1.1.1.1.1.1.0
-
-pub shape_of-c : goal.shape_of-c
-shape_of-c c = c.tidy_lined.auto.1.1.1.1.1.1.1.1.0
-
-pub shape_of-d : goal.shape_of-d
-shape_of-d c = c.tidy_lined.auto.1.1.1.1.1.1.1.1.1.0
-
-pub shape_of-e : goal.shape_of-e
-shape_of-e c = c.tidy_lined.auto.1.1.1.1.1.1.1.1.1.1.0
-
-pub shape_of-f : goal.shape_of-f
-shape_of-f c = c.tidy_lined.auto.1.1.1.1.1.1.1.1.1.1.1.0
-
-pub shape_of-g : goal.shape_of-g
-shape_of-g c = c.tidy_lined.auto.1.1.1.1.1.1.1.1.1.1.1.1.0
-
-pub shape_of-h : goal.shape_of-h
-shape_of-h c = c.tidy_lined.auto.1.1.1.1.1.1.1.1.1.1.1.1.1.0
-
-pub shape_of-u : goal.shape_of-u
-shape_of-u c = c.tidy_lined.auto.1.1.1.1.1.1.1.1.1.1.1.1.1.1.0
-
-pub shape_of-v : goal.shape_of-v
-shape_of-v c = c.tidy_lined.auto.1.1.1.1.1.1.1.1.1.1.1.1.1.1.1.0
-
-pub shape_of-w : goal.shape_of-w
-shape_of-w c = c.tidy_lined.auto.1.1.1.1.1.1.1.1.1.1.1.1.1.1.1.1.0
-
-pub shape_of-x : goal.shape_of-x
-shape_of-x c = c.tidy_lined.auto.1.1.1.1.1.1.1.1.1.1.1.1.1.1.1.1.1.0
-
-pub shape_of-p : goal.shape_of-p
-shape_of-p c = c.tidy_lined.auto.1.1.1.1.1.1.1.1.1.1.1.1.1.1.1.1.1.1.0
-
-pub shape_of-q : goal.shape_of-q
-shape_of-q c = c.tidy_lined.auto.1.1.1.1.1.1.1.1.1.1.1.1.1.1.1.1.1.1.1.0
-
-pub shape_of-r : goal.shape_of-r
-shape_of-r c = c.tidy_lined.auto.1.1.1.1.1.1.1.1.1.1.1.1.1.1.1.1.1.1.1.1.0
-
-pub shape_of-t : goal.shape_of-t
-shape_of-t c = c.tidy_lined.auto.1.1.1.1.1.1.1.1.1.1.1.1.1.1.1.1.1.1.1.1.1.0
-
-pub shape_of-own : goal.shape_of-own
-shape_of-own c = c.tidy_lined.auto.1.1.1.1.1.1.1.1.1.1.1.1.1.1.1.1.1.1.1.1.1.1.0
-
-pub shape_of-table : goal.shape_of-table
-shape_of-table c = c.tidy_lined.auto.1.1.1.1.1.1.1.1.1.1.1.1.1.1.1.1.1.1.1.1.1.1.1.0
-
-pub shape_of-out : goal.shape_of-out
-shape_of-out c = c.tidy_lined.auto.1.1.1.1.1.1.1.1.1.1.1.1.1.1.1.1.1.1.1.1.1.1.1.1.0
-
-pub shape_of-orig : goal.shape_of-orig
-shape_of-orig c = c.tidy_lined.auto.1.1.1.1.1.1.1.1.1.1.1.1.1.1.1.1.1.1.1.1.1.1.1.1.1.0
-
 pub returns : goal.returns
 returns c =
     let g = c.args in
     let s = is_short large (length g.a.now) (length g.b.now) (length g.c.now) (length g.d.now) (length g.e.now) (length g.u.now) in
     let xs = result_of (steps_of (reading_of g.mode) g.from (g.to - g.from)) g.text.now in
     let w = c.tidy_lined.ensures in
-    let b = w.1.1.1 in
-    let d = tidied-as g.text.now g.out.now g.orig.now g.a.now g.b.now g.c.now g.d.now g.e.now g.u.now (c.task-m.ensures ∙ ap (λ (L : Limits). task_of L g.from g.to g.mode g.form) c.large.ensures) (w.0, (w.1.0, w.1.1.0)) in
+    let b = w.tables in
+    let d = tidied-as g.text.now g.out.now g.orig.now g.a.now g.b.now g.c.now g.d.now g.e.now g.u.now (c.task-m.ensures ∙ ap (λ (L : Limits). task_of L g.from g.to g.mode g.form) c.large.ensures) (w.answer, (w.memory, w.records)) in
     record { answer = d.0 ∙ ap (λ (y : Bool). whole_answer large g.form g.mode y g.text.now xs (length g.out.now) (length g.orig.now)) (sym (or-neither s (sym c.tables_short-short.ensures ∙ c.if-short.false))); memory = (d.1.0.0, record { buffers = d.1.0.1; f-after = b.0.f-after; g-after = b.0.g-after; h-after = b.1.h-after; v-after = b.1.v-after; w-after = b.1.w-after; x-after = b.1.x-after; p-after = b.1.p-after; q-after = b.1.q-after; r-after = b.0.r-after; t-after = b.0.t-after; o-after = b.0.o-after; z-after = b.1.z-after }); records = d.1.1 }

@@ -48,70 +48,31 @@ slice_bounds-tidy_placed-end-14 c = stated _ c.args.table.now c.requires.1.1.1.z
 pub tidy_placed-requires : goal.tidy_placed-requires
 tidy_placed-requires c = let g = c.args in let k = c.requires in let l = k.1.1.1 in (k.0, (k.1.0.1, (k.1.1.0, record { p-lines = omega (arith, stated _ g.p.now l.p-tall, k.1.0.0); q-lines = omega (arith, stated _ g.q.now l.q-tall, k.1.0.0); z-lines = omega (arith, stated _ g.table.now l.z-tall, k.1.0.0); w-as-v = sym (stated _ g.w.now l.w-tall) ∙ stated _ g.v.now l.v-tall; w-as-x = sym (stated _ g.w.now l.w-tall) ∙ stated _ g.x.now l.x-tall })))
 
-pub shape_of-a : goal.shape_of-a
-shape_of-a c = c.tidy_placed.auto.1.1.1.1.0
-
-pub shape_of-b : goal.shape_of-b
-shape_of-b c = c.tidy_placed.auto.1.1.1.1.1.0
-
-pub shape_of-c : goal.shape_of-c
-shape_of-c c = c.tidy_placed.auto.1.1.1.1.1.1.0
-
-pub shape_of-d : goal.shape_of-d
-shape_of-d c = c.tidy_placed.auto.1.1.1.1.1.1.1.0
-
-pub shape_of-e : goal.shape_of-e
-shape_of-e c = c.tidy_placed.auto.1.1.1.1.1.1.1.1.0
-
-pub shape_of-f : goal.shape_of-f
-shape_of-f c = c.tidy_placed.auto.1.1.1.1.1.1.1.1.1.0
-
-pub shape_of-g : goal.shape_of-g
-shape_of-g c = c.tidy_placed.auto.1.1.1.1.1.1.1.1.1.1.0
-
 pub shape_of-h : goal.shape_of-h
-shape_of-h c = same-part _ c.args.h.now c.tidy_placed.new.1.1.1.1.1.1.1.1.1.1.1.0 c.requires.1.1.1.h-tall c.tidy_placed.auto.1.1.1.1.1.1.1.1.1.1.1.0
-
-pub shape_of-u : goal.shape_of-u
-shape_of-u c = c.tidy_placed.auto.1.1.1.1.1.1.1.1.1.1.1.1.0
+shape_of-h c = same-part _ c.args.h.now c.tidy_placed.new.h c.requires.1.1.1.h-tall c.tidy_placed.auto.h
 
 pub shape_of-v : goal.shape_of-v
-shape_of-v c = same-part _ c.args.v.now c.tidy_placed.new.1.1.1.1.1.1.1.1.1.1.1.1.1.0 c.requires.1.1.1.v-tall c.tidy_placed.auto.1.1.1.1.1.1.1.1.1.1.1.1.1.0
+shape_of-v c = same-part _ c.args.v.now c.tidy_placed.new.v c.requires.1.1.1.v-tall c.tidy_placed.auto.v
 
 pub shape_of-w : goal.shape_of-w
-shape_of-w c = same-part _ c.args.w.now c.tidy_placed.new.1.1.1.1.1.1.1.1.1.1.1.1.1.1.0 c.requires.1.1.1.w-tall c.tidy_placed.auto.1.1.1.1.1.1.1.1.1.1.1.1.1.1.0
+shape_of-w c = same-part _ c.args.w.now c.tidy_placed.new.w c.requires.1.1.1.w-tall c.tidy_placed.auto.w
 
 pub shape_of-x : goal.shape_of-x
-shape_of-x c = same-part _ c.args.x.now c.tidy_placed.new.1.1.1.1.1.1.1.1.1.1.1.1.1.1.1.0 c.requires.1.1.1.x-tall c.tidy_placed.auto.1.1.1.1.1.1.1.1.1.1.1.1.1.1.1.0
+shape_of-x c = same-part _ c.args.x.now c.tidy_placed.new.x c.requires.1.1.1.x-tall c.tidy_placed.auto.x
 
 pub shape_of-p : goal.shape_of-p
-shape_of-p c = same-part _ c.args.p.now c.tidy_placed.new.1.1.1.1.1.1.1.1.1.1.1.1.1.1.1.1.0 c.requires.1.1.1.p-tall c.tidy_placed.auto.1.1.1.1.1.1.1.1.1.1.1.1.1.1.1.1.0
+shape_of-p c = same-part _ c.args.p.now c.tidy_placed.new.p c.requires.1.1.1.p-tall c.tidy_placed.auto.p
 
 pub shape_of-q : goal.shape_of-q
-shape_of-q c = same-part _ c.args.q.now c.tidy_placed.new.1.1.1.1.1.1.1.1.1.1.1.1.1.1.1.1.1.0 c.requires.1.1.1.q-tall c.tidy_placed.auto.1.1.1.1.1.1.1.1.1.1.1.1.1.1.1.1.1.0
-
-pub shape_of-r : goal.shape_of-r
-shape_of-r c = c.tidy_placed.auto.1.1.1.1.1.1.1.1.1.1.1.1.1.1.1.1.1.1.0
-
-pub shape_of-t : goal.shape_of-t
-shape_of-t c = c.tidy_placed.auto.1.1.1.1.1.1.1.1.1.1.1.1.1.1.1.1.1.1.1.0
-
-pub shape_of-own : goal.shape_of-own
-shape_of-own c = c.tidy_placed.auto.1.1.1.1.1.1.1.1.1.1.1.1.1.1.1.1.1.1.1.1.0
+shape_of-q c = same-part _ c.args.q.now c.tidy_placed.new.q c.requires.1.1.1.q-tall c.tidy_placed.auto.q
 
 pub shape_of-table : goal.shape_of-table
-shape_of-table c = same-part _ c.args.table.now c.tidy_placed.new.1.1.1.1.1.1.1.1.1.1.1.1.1.1.1.1.1.1.1.1.1.0 c.requires.1.1.1.z-tall c.tidy_placed.auto.1.1.1.1.1.1.1.1.1.1.1.1.1.1.1.1.1.1.1.1.1.0
-
-pub shape_of-out : goal.shape_of-out
-shape_of-out c = c.tidy_placed.auto.1.1.1.1.1.1.1.1.1.1.1.1.1.1.1.1.1.1.1.1.1.1.0
-
-pub shape_of-orig : goal.shape_of-orig
-shape_of-orig c = c.tidy_placed.auto.1.1.1.1.1.1.1.1.1.1.1.1.1.1.1.1.1.1.1.1.1.1.1.0
+shape_of-table c = same-part _ c.args.table.now c.tidy_placed.new.table c.requires.1.1.1.z-tall c.tidy_placed.auto.table
 
 pub returns : goal.returns
 returns c =
     let g = c.args in
     let l = c.requires.1.1.1 in
     let d = c.tidy_placed.ensures in
-    let b = d.1.1.1.1 in
-    record { answer = d.0; memory = d.1.0; records = d.1.1.0; tables = (d.1.1.1.0, record { h-after = part-after _ _ g.h.now l.h-tall b.h-after; v-after = part-after _ _ g.v.now l.v-tall b.v-after; w-after = part-after _ _ g.w.now l.w-tall b.w-after; x-after = part-after _ _ g.x.now l.x-tall b.x-after; p-after = part-after _ _ g.p.now l.p-tall b.p-after; q-after = part-after _ _ g.q.now l.q-tall b.q-after; z-after = part-after _ _ g.table.now l.z-tall b.z-after }) }
+    let b = d.tables.1 in
+    record { answer = d.answer; memory = d.memory; records = d.records; tables = (d.tables.0, record { h-after = part-after _ _ g.h.now l.h-tall b.h-after; v-after = part-after _ _ g.v.now l.v-tall b.v-after; w-after = part-after _ _ g.w.now l.w-tall b.w-after; x-after = part-after _ _ g.x.now l.x-tall b.x-after; p-after = part-after _ _ g.p.now l.p-tall b.p-after; q-after = part-after _ _ g.q.now l.q-tall b.q-after; z-after = part-after _ _ g.table.now l.z-tall b.z-after }) }

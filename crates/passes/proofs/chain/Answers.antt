@@ -48,7 +48,7 @@ pub slice_bounds-put-end-else-idle : goal.slice_bounds-put-end-else-idle
 slice_bounds-put-end-else-idle c = let f = c.step-k in sym (length-take-le f.result f.new.1.1.1.1.1.0 (wrote-front f.ensures.answer).fits)
 
 pub put-n-requires : goal.put-n-requires
-put-n-requires c = let h = c.loop-j.invariant in omega (arith, chain_fits h.0 (omega (arith, c.requires.1.0, h.1.a-same, c.split_lines-n.auto.1.0)) c.step-k.ensures.answer)
+put-n-requires c = let h = c.loop-j.invariant in omega (arith, chain_fits h.0 (omega (arith, c.requires.1.0, h.1.a-same, c.split_lines-n.auto.out)) c.step-k.ensures.answer)
 
 pub overflow_add-j-else-idle : goal.overflow_add-j-else-idle
 overflow_add-j-else-idle c = omega (arith, c.loop-j-test.true)
@@ -57,10 +57,10 @@ pub loop-j-smaller : goal.loop-j-smaller
 loop-j-smaller c = omega (arith, c.loop-j-test.true)
 
 pub loop-j-preserved : goal.loop-j-preserved
-loop-j-preserved c = let h = c.loop-j.invariant in let f = c.step-k in let s = h.1 in (chain-on h.0 c.loop-j-test.true f.ensures.answer c.put-n.ensures f.ensures.origins, record { a-same = c.put-n.auto.0 ∙ s.a-same; b-same = f.auto.1.1.1.1.1.0 ∙ s.b-same; c-same = f.auto.1.1.1.1.1.1.0 ∙ s.c-same; d-same = f.auto.1.1.1.1.1.1.1.0 ∙ s.d-same; e-same = f.auto.1.1.1.1.1.1.1.1.0 ∙ s.e-same; f-same = f.auto.1.1.1.1.1.1.1.1.1.0 ∙ s.f-same; g-same = f.auto.1.1.1.1.1.1.1.1.1.1.0 ∙ s.g-same; h-same = f.auto.1.1.1.1.1.1.1.1.1.1.1.0 ∙ s.h-same; u_same = f.auto.1.1.1.1.1.1.1.1.1.1.1.1.0 ∙ s.u_same; v-same = f.auto.1.1.1.1.1.1.1.1.1.1.1.1.1.0 ∙ s.v-same; w-same = f.auto.1.1.1.1.1.1.1.1.1.1.1.1.1.1.0 ∙ s.w-same; x-same = f.auto.1.1.1.1.1.1.1.1.1.1.1.1.1.1.1.0 ∙ s.x-same; p-same = f.auto.1.1.1.1.1.1.1.1.1.1.1.1.1.1.1.1.0 ∙ s.p-same; q-same = f.auto.1.1.1.1.1.1.1.1.1.1.1.1.1.1.1.1.1.0 ∙ s.q-same; r-same = f.auto.1.1.1.1.1.1.1.1.1.1.1.1.1.1.1.1.1.1.0 ∙ s.r-same; t_same = f.auto.1.1.1.1.1.1.1.1.1.1.1.1.1.1.1.1.1.1.1.0 ∙ s.t_same; z-same = f.auto.1.1.1.1.1.1.1.1.1.1.1.1.1.1.1.1.1.1.1.1.0 ∙ s.z-same })
+loop-j-preserved c = let h = c.loop-j.invariant in let f = c.step-k in let s = h.1 in (chain-on h.0 c.loop-j-test.true f.ensures.answer c.put-n.ensures f.ensures.origins, record { a-same = c.put-n.auto.out ∙ s.a-same; b-same = f.auto.1.1.1.1.1.0 ∙ s.b-same; c-same = f.auto.1.1.1.1.1.1.0 ∙ s.c-same; d-same = f.auto.1.1.1.1.1.1.1.0 ∙ s.d-same; e-same = f.auto.1.1.1.1.1.1.1.1.0 ∙ s.e-same; f-same = f.auto.1.1.1.1.1.1.1.1.1.0 ∙ s.f-same; g-same = f.auto.1.1.1.1.1.1.1.1.1.1.0 ∙ s.g-same; h-same = f.auto.1.1.1.1.1.1.1.1.1.1.1.0 ∙ s.h-same; u_same = f.auto.1.1.1.1.1.1.1.1.1.1.1.1.0 ∙ s.u_same; v-same = f.auto.1.1.1.1.1.1.1.1.1.1.1.1.1.0 ∙ s.v-same; w-same = f.auto.1.1.1.1.1.1.1.1.1.1.1.1.1.1.0 ∙ s.w-same; x-same = f.auto.1.1.1.1.1.1.1.1.1.1.1.1.1.1.1.0 ∙ s.x-same; p-same = f.auto.1.1.1.1.1.1.1.1.1.1.1.1.1.1.1.1.0 ∙ s.p-same; q-same = f.auto.1.1.1.1.1.1.1.1.1.1.1.1.1.1.1.1.1.0 ∙ s.q-same; r-same = f.auto.1.1.1.1.1.1.1.1.1.1.1.1.1.1.1.1.1.1.0 ∙ s.r-same; t_same = f.auto.1.1.1.1.1.1.1.1.1.1.1.1.1.1.1.1.1.1.1.0 ∙ s.t_same; z-same = f.auto.1.1.1.1.1.1.1.1.1.1.1.1.1.1.1.1.1.1.1.1.0 ∙ s.z-same })
 
 pub shape_of-a : goal.shape_of-a
-shape_of-a c = c.loop-j.invariant.1.a-same ∙ c.split_lines-n.auto.1.0
+shape_of-a c = c.loop-j.invariant.1.a-same ∙ c.split_lines-n.auto.out
 
 pub shape_of-b : goal.shape_of-b
 shape_of-b c = c.loop-j.invariant.1.b-same
@@ -108,10 +108,10 @@ pub shape_of-t : goal.shape_of-t
 shape_of-t c = c.loop-j.invariant.1.t_same
 
 pub shape_of-own : goal.shape_of-own
-shape_of-own c = c.gather-high.auto.1.1.0 ∙ c.wipe-2.auto.0
+shape_of-own c = c.gather-high.auto.own ∙ c.wipe-2.auto.table
 
 pub shape_of-table : goal.shape_of-table
-shape_of-table c = c.land.auto.0 ∙ (c.loop-j.invariant.1.z-same ∙ c.wipe.auto.0)
+shape_of-table c = c.land.auto.moves ∙ (c.loop-j.invariant.1.z-same ∙ c.wipe.auto.table)
 
 pub returns : goal.returns
 returns c =

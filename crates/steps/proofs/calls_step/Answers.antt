@@ -13,51 +13,24 @@ pub rebuild_calls-n-requires : goal.rebuild_calls-n-requires
 rebuild_calls-n-requires c = let p = c.requires.1 in calls-room c.args.m.mode.0 p.0 p.1.0 p.1.1.0 p.1.1.1
 
 pub trace-requires : goal.trace-requires
-trace-requires c = omega (arith, c.requires.0, c.requires.1.0.lines, c.requires.1.1.1.1.1.0, c.rebuild_calls-n.auto.1.1.1.1.0)
-
-pub shape_of-cur : goal.shape_of-cur
-shape_of-cur c = c.rebuild_calls-n.auto.1.1.1.1.1.1.1.1.1.1.1.1.0
-
-pub shape_of-next : goal.shape_of-next
-shape_of-next c = c.rebuild_calls-n.auto.1.1.1.1.1.1.1.1.1.1.1.1.1.0
-
-pub shape_of-stack : goal.shape_of-stack
-shape_of-stack c = c.rebuild_calls-n.auto.1.1.1.1.1.1.1.1.1.1.1.0
+trace-requires c = omega (arith, c.requires.0, c.requires.1.0.lines, c.requires.1.1.1.1.1.0, c.rebuild_calls-n.auto.owner)
 
 pub shape_of-starts : goal.shape_of-starts
-shape_of-starts c = c.wipe.auto.0 ∙ c.rebuild_calls-n.auto.1.1.1.1.1.1.0
-
-pub shape_of-up : goal.shape_of-up
-shape_of-up c = c.rebuild_calls-n.auto.1.1.1.1.1.1.1.0
-
-pub shape_of-near : goal.shape_of-near
-shape_of-near c = c.rebuild_calls-n.auto.1.1.1.1.1.1.1.1.0
-
-pub shape_of-stores : goal.shape_of-stores
-shape_of-stores c = c.rebuild_calls-n.auto.1.1.1.1.1.1.1.1.1.0
-
-pub shape_of-notes : goal.shape_of-notes
-shape_of-notes c = c.rebuild_calls-n.auto.1.1.1.1.1.1.1.1.1.1.0
+shape_of-starts c = c.wipe.auto.s ∙ c.rebuild_calls-n.auto.starts
 
 pub shape_of-owner : goal.shape_of-owner
-shape_of-owner c = c.trace.auto.1.0 ∙ c.rebuild_calls-n.auto.1.1.1.1.0
+shape_of-owner c = c.trace.auto.moves ∙ c.rebuild_calls-n.auto.owner
 
 pub shape_of-ends : goal.shape_of-ends
-shape_of-ends c = c.wipe-2.auto.0 ∙ c.rebuild_calls-n.auto.1.1.1.0
+shape_of-ends c = c.wipe-2.auto.table ∙ c.rebuild_calls-n.auto.ends
 
 pub shape_of-blocks : goal.shape_of-blocks
-shape_of-blocks c = c.wipe-3.auto.0 ∙ c.rebuild_calls-n.auto.1.1.1.1.1.0
-
-pub shape_of-dst : goal.shape_of-dst
-shape_of-dst c = c.rebuild_calls-n.auto.1.1.1.1.1.1.1.1.1.1.1.1.1.1.0
-
-pub shape_of-table : goal.shape_of-table
-shape_of-table c = c.trace.auto.1.1.0
+shape_of-blocks c = c.wipe-3.auto.table ∙ c.rebuild_calls-n.auto.blocks
 
 pub returns : goal.returns
 returns c =
     let p = c.rebuild_calls-n.ensures in
-    let s = p.1.1.1.0 in
-    let z = p.1.1.1.1.0 in
+    let s = p.scratch in
+    let z = p.notes in
     let e = c.requires.0 in
-    record { answer = p.0; memory = calls-left _ _ s.0 s.1.0 s.1.1 p.1.1.0.1.1; tables = (wiped-zeros refl c.rebuild_calls-n.auto.1.1.1.1.1.1.0 c.wipe.ensures, (z.0, (z.1.0, (z.1.1, (c.trace.ensures.memory ∙ ap (λ (n : ℕ). replicate n 0) c.rebuild_calls-n.auto.1.1.1.1.0, (c.wipe-2.ensures ∙ ap (λ (n : ℕ). replicate n 0) c.rebuild_calls-n.auto.1.1.1.0, c.wipe-3.ensures ∙ ap (λ (n : ℕ). replicate n 0) c.rebuild_calls-n.auto.1.1.1.1.1.0)))))); origins = calls-trail c.args.m.mode.0 (lines_of c.args.src.now) c.args.table.now e p.1.0 c.trace.ensures.origins }
+    record { answer = p.answer; memory = calls-left _ _ s.0 s.1.0 s.1.1 p.tables.1.1; tables = (wiped-zeros refl c.rebuild_calls-n.auto.starts c.wipe.ensures, (z.0, (z.1.0, (z.1.1, (c.trace.ensures.memory ∙ ap (λ (n : ℕ). replicate n 0) c.rebuild_calls-n.auto.owner, (c.wipe-2.ensures ∙ ap (λ (n : ℕ). replicate n 0) c.rebuild_calls-n.auto.ends, c.wipe-3.ensures ∙ ap (λ (n : ℕ). replicate n 0) c.rebuild_calls-n.auto.blocks)))))); origins = calls-trail c.args.m.mode.0 (lines_of c.args.src.now) c.args.table.now e p.owners c.trace.ensures.origins }

@@ -18,7 +18,7 @@ returns-then-k-eq0 c =
     let p = c.remove_globals.ensures in
     let a = c.args in
     let t = c.if-k-eq0.true in
-    record { answer = wrote_as (ap unlines (sym (step-0 (reading_of a.m.mode.0) a.k (lines_of a.src.now) t))) p.0; memory = few-as t few-0; moves = wrote_as (ap moves_of (sym (acts-0 (reading_of a.m.mode.0) a.k (lines_of a.src.now) t))) p.1 }
+    record { answer = wrote_as (ap unlines (sym (step-0 (reading_of a.m.mode.0) a.k (lines_of a.src.now) t))) p.answer; memory = few-as t few-0; moves = wrote_as (ap moves_of (sym (acts-0 (reading_of a.m.mode.0) a.k (lines_of a.src.now) t))) p.moves }
 
 pub temps_step-requires : goal.temps_step-requires
 temps_step-requires c = let p = c.requires.1 in (p.0, (p.1.1.0, (p.1.0, p.1.1.1.1.1)))
@@ -28,7 +28,7 @@ returns-then-k-eq1 c =
     let p = c.temps_step.ensures in
     let a = c.args in
     let t = c.if-k-eq1.true in
-    record { answer = wrote_as (ap unlines (sym (step-1 (reading_of a.m.mode.0) a.k (lines_of a.src.now) t))) p.0; memory = few-as t (few-1 p.1.0 p.1.1.0); moves = wrote_as (ap moves_of (sym (acts-1 (reading_of a.m.mode.0) a.k (lines_of a.src.now) t))) p.1.1.1 }
+    record { answer = wrote_as (ap unlines (sym (step-1 (reading_of a.m.mode.0) a.k (lines_of a.src.now) t))) p.answer; memory = few-as t (few-1 p.memory p.tables); moves = wrote_as (ap moves_of (sym (acts-1 (reading_of a.m.mode.0) a.k (lines_of a.src.now) t))) p.moves }
 
 pub phis_step-requires : goal.phis_step-requires
 phis_step-requires c = let p = c.requires.1 in (p.0, (p.1.1.0, (p.1.1.1.0, (p.1.1.1.1.0, (p.1.0, p.1.1.1.1.1)))))
@@ -38,7 +38,7 @@ returns-then-k-eq3 c =
     let p = c.phis_step.ensures in
     let a = c.args in
     let t = c.if-k-eq3.true in
-    record { answer = wrote_as (ap unlines (sym (step-3 (reading_of a.m.mode.0) a.k (lines_of a.src.now) t))) p.0; memory = few-as t (few-3 p.1.0 p.1.1.0); moves = wrote_as (ap moves_of (sym (acts-3 (reading_of a.m.mode.0) a.k (lines_of a.src.now) t))) p.1.1.1 }
+    record { answer = wrote_as (ap unlines (sym (step-3 (reading_of a.m.mode.0) a.k (lines_of a.src.now) t))) p.answer; memory = few-as t (few-3 p.memory p.tables); moves = wrote_as (ap moves_of (sym (acts-3 (reading_of a.m.mode.0) a.k (lines_of a.src.now) t))) p.moves }
 
 pub prune_decls-requires : goal.prune_decls-requires
 prune_decls-requires c = let p = c.requires.1 in (omega (arith, room_fits tame-decls p.0, p.1.0), omega (arith, p.0.lines, p.1.1.1.1.1))
@@ -48,7 +48,7 @@ returns-then-k-eq5 c =
     let p = c.prune_decls.ensures in
     let a = c.args in
     let t = c.if-k-eq5.true in
-    record { answer = wrote_as (ap unlines (sym (step-5 (reading_of a.m.mode.0) a.k (lines_of a.src.now) t))) p.0; memory = few-as t (few-5 p.1.0); moves = wrote_as (ap moves_of (sym (acts-5 (reading_of a.m.mode.0) a.k (lines_of a.src.now) t))) p.1.1 }
+    record { answer = wrote_as (ap unlines (sym (step-5 (reading_of a.m.mode.0) a.k (lines_of a.src.now) t))) p.answer; memory = few-as t (few-5 p.memory); moves = wrote_as (ap moves_of (sym (acts-5 (reading_of a.m.mode.0) a.k (lines_of a.src.now) t))) p.moves }
 
 pub stay_lines-requires : goal.stay_lines-requires
 stay_lines-requires c = let p = c.requires.1 in omega (arith, p.0.lines, p.1.1.1.1.1)

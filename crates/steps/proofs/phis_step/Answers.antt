@@ -9,4 +9,4 @@ prune_dead_phis-requires c = let p = c.requires in phis-room (reading_of c.args.
 pub returns : goal.returns
 returns c =
     let p = c.prune_dead_phis.ensures in
-    record { answer = p.0; memory = phis-left _ _ p.1.1.1.0 p.1.0 p.1.1.0; tables = p.1.1.1.1.0; moves = p.1.1.1.1.1 }
+    record { answer = p.answer; memory = phis-left _ _ p.memory p.one p.two; tables = p.noted; moves = p.moves }

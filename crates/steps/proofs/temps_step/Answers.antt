@@ -10,5 +10,5 @@ prune_dead_temps-requires c = let p = c.requires in (omega (arith, room-length p
 pub returns : goal.returns
 returns c =
     let p = c.prune_dead_temps.ensures in
-    let z = p.1.1.0 in
-    record { answer = p.0; memory = temps-left _ _ _ p.1.0; tables = (z.1.0, (z.1.1, z.0)); moves = p.1.1.1 }
+    let z = p.tables in
+    record { answer = p.answer; memory = temps-left _ _ _ p.memory; tables = (z.1.0, (z.1.1, z.0)); moves = p.moves }

@@ -9,9 +9,6 @@ slice_bounds-count_standing-end c = c.requires
 pub slice_bounds-count_standing-end-2 : goal.slice_bounds-count_standing-end-2
 slice_bounds-count_standing-end-2 c = sym (length-take-le _ _ c.requires)
 
-pub shape_of-moves-then-s-n : goal.shape_of-moves-then-s-n
-shape_of-moves-then-s-n c = c.wipe.auto.0
-
 pub returns-then-s-n : goal.returns-then-s-n
 returns-then-s-n c =
     record { answer = c.count_standing-s.ensures; memory = c.wipe.ensures; origins = none-moved c.args.table.now c.args.moves.now c.args.n c.requires c.count_standing-s.ensures c.if-s-n.true }
@@ -21,12 +18,6 @@ slice_bounds-carry-end c = c.requires
 
 pub slice_bounds-carry-end-2 : goal.slice_bounds-carry-end-2
 slice_bounds-carry-end-2 c = sym (length-take-le _ _ c.requires)
-
-pub shape_of-moves : goal.shape_of-moves
-shape_of-moves c = c.wipe-2.auto.0
-
-pub shape_of-table : goal.shape_of-table
-shape_of-table c = c.carry.auto.1.0
 
 pub returns : goal.returns
 returns c =
