@@ -31,19 +31,19 @@ pub flag_lines-requires : goal.flag_lines-requires
 flag_lines-requires c = let p = c.requires in let ls = lines_of c.args.text.now in let g = ap length (filled-part c.block_paths-x.ensures.paths.0) in let h = ap length (filled-part c.inside_loop-n.ensures) in (zeroed-wiped c.wipe.ensures, (p.1.0, (omega (arith, g, length-tops ls), omega (arith, h, flags-length (inside_loop ls), length-loops ls))))
 
 pub shape_of-scratch : goal.shape_of-scratch
-shape_of-scratch c = c.flag_lines.auto.1.1.1.1.0 ∙ c.wipe.auto.0
+shape_of-scratch c = c.flag_lines.auto.scratch ∙ c.wipe.auto.s
 
 pub shape_of-loops : goal.shape_of-loops
-shape_of-loops c = c.inside_loop-n.auto.1.0
+shape_of-loops c = c.inside_loop-n.auto.flags
 
 pub shape_of-paths : goal.shape_of-paths
-shape_of-paths c = c.block_paths-x.auto.1.0
+shape_of-paths c = c.block_paths-x.auto.table
 
 pub shape_of-up : goal.shape_of-up
-shape_of-up c = c.block_paths-x.auto.1.1.0
+shape_of-up c = c.block_paths-x.auto.up
 
 pub shape_of-flags : goal.shape_of-flags
-shape_of-flags c = c.flag_lines.auto.1.1.1.1.1.0
+shape_of-flags c = c.flag_lines.auto.flags
 
 pub returns : goal.returns
 returns c =
@@ -51,4 +51,4 @@ returns c =
     let b = c.block_paths-x.ensures.paths in
     let f = c.inside_loop-n.ensures in
     let e = c.flag_lines.ensures in
-    record { answer = plain-filled (reading_of a.mode.0) (lines_of a.text.now) (filled-part b.0) (filled-part f) e.0; memory = (wrote-same e.1 c.wipe.ensures, (filled-to f, (filled-to b.0, b.1))) }
+    record { answer = plain-filled (reading_of a.mode.0) (lines_of a.text.now) (filled-part b.0) (filled-part f) e.answer; memory = (wrote-same e.memory c.wipe.ensures, (filled-to f, (filled-to b.0, b.1))) }

@@ -3,9 +3,9 @@ use Rattle.once.proofs.Scratches.{changes-name}
 use Rattle.once.proofs.changes.Goals as goal
 
 pub returns-in-Reg : goal.returns-in-Reg
-returns-in-Reg c = rw (sym c.reg_name.ensures, c.q-1.given.1) c.use_of-u.ensures.1
+returns-in-Reg c = rw (sym c.reg_name.ensures, c.in-Reg.is) c.use_of-u.ensures.1
 
 pub returns-in-None : goal.returns-in-None
 returns-in-None c =
     let a = c.args in
-    rw c.count_word.ensures (changes-name a.obj.now a.line.now _ c.parse-p.result c.requires c.parse-p.ensures c.text_of.ensures (sym c.reg_name.ensures ∙ c.enum_told-1.given.1))
+    rw c.count_word.ensures (changes-name a.obj.now a.line.now _ c.parse-p.result c.requires c.parse-p.ensures c.text_of.ensures (sym c.reg_name.ensures ∙ c.in-None.is))

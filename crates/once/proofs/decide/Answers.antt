@@ -35,34 +35,34 @@ fill_marks-requires c =
     (zeroed-wiped c.wipe.ensures, (c.requires.1.0, (ap length (filled-part b.0.0) ∙ length-tops (lines_of a.text.now), (c.requires.1.1.1.1.1.1, ends_of a.text.now _ _ (wiped-most (length a.ends.now) _ c.wipe-2.ensures) b.1.1))))
 
 pub shape_of-scratch : goal.shape_of-scratch
-shape_of-scratch c = c.fill_marks.auto.1.1.1.1.1.0 ∙ c.wipe.auto.0
+shape_of-scratch c = c.fill_marks.auto.scratch ∙ c.wipe.auto.s
 
 pub shape_of-loops : goal.shape_of-loops
-shape_of-loops c = c.fill_loops-n.auto.1.1.1.0
+shape_of-loops c = c.fill_loops-n.auto.loops
 
 pub shape_of-marks : goal.shape_of-marks
-shape_of-marks c = c.fill_marks.auto.1.1.1.1.1.1.0
+shape_of-marks c = c.fill_marks.auto.marks
 
 pub shape_of-paths : goal.shape_of-paths
-shape_of-paths c = c.block_paths-x.auto.1.0
+shape_of-paths c = c.block_paths-x.auto.table
 
 pub shape_of-up : goal.shape_of-up
-shape_of-up c = c.block_paths-x.auto.1.1.0
+shape_of-up c = c.block_paths-x.auto.up
 
 pub shape_of-near : goal.shape_of-near
-shape_of-near c = c.fill_marks.auto.1.1.1.1.1.1.1.0
+shape_of-near c = c.fill_marks.auto.near
 
 pub shape_of-far : goal.shape_of-far
-shape_of-far c = c.fill_marks.auto.1.1.1.1.1.1.1.1.0
+shape_of-far c = c.fill_marks.auto.far
 
 pub shape_of-stores : goal.shape_of-stores
-shape_of-stores c = c.fill_marks.auto.1.1.1.1.1.1.1.1.1.0
+shape_of-stores c = c.fill_marks.auto.stores
 
 pub shape_of-notes : goal.shape_of-notes
-shape_of-notes c = c.fill_marks.auto.1.1.1.1.1.1.1.1.1.1.0
+shape_of-notes c = c.fill_marks.auto.notes
 
 pub shape_of-ends : goal.shape_of-ends
-shape_of-ends c = c.block_paths-x.auto.1.1.1.0 ∙ c.wipe-2.auto.0
+shape_of-ends c = c.block_paths-x.auto.ends ∙ c.wipe-2.auto.table
 
 pub returns : goal.returns
 returns c =
@@ -70,4 +70,4 @@ returns c =
     let b = c.block_paths-x.ensures in
     let f = c.fill_loops-n.ensures in
     let e = c.fill_marks.ensures in
-    record { answer = marks-filled (reading_of a.mode.0) (lines_of a.text.now) (filled-part b.0.0) (filled-part f) e.0; memory = (wrote-same e.1.0 c.wipe.ensures, (filled-to f, (filled-to b.0.0, b.0.1))); tables = e.1.1; ends = b.1.1 ∙ ap (ends_from 0 0 (lines_of a.text.now)) c.wipe-2.ensures }
+    record { answer = marks-filled (reading_of a.mode.0) (lines_of a.text.now) (filled-part b.0.0) (filled-part f) e.answer; memory = (wrote-same e.memory c.wipe.ensures, (filled-to f, (filled-to b.0.0, b.0.1))); tables = e.tables; ends = b.1.1 ∙ ap (ends_from 0 0 (lines_of a.text.now)) c.wipe-2.ensures }

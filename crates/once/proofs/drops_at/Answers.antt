@@ -12,12 +12,12 @@ use Rattle.once.proofs.drops_at.Goals as goal
 pub returns-then-i-text : goal.returns-then-i-text
 returns-then-i-text c =
     let a = c.args in
-    record { answer = first-end (reading_of a.mode.0) a.text.now a.paths.now a.i a.k a.in-loop c.if-i-text.true; memory = refl }
+    record { answer = first-end (reading_of a.mode.0) a.text.now a.paths.now a.i a.k a.in_loop c.if-i-text.true; memory = refl }
 
 pub returns-then-k-paths : goal.returns-then-k-paths
 returns-then-k-paths c =
     let a = c.args in
-    record { answer = first_short (reading_of a.mode.0) a.text.now a.paths.now a.i a.k a.in-loop c.if-k-paths.true; memory = refl }
+    record { answer = first_short (reading_of a.mode.0) a.text.now a.paths.now a.i a.k a.in_loop c.if-k-paths.true; memory = refl }
 
 pub slice_bounds-line_drops-end : goal.slice_bounds-line_drops-end
 slice_bounds-line_drops-end c = let a = c.args in omega (arith, find-le 10 a.text.now a.i a.e (omega (arith, c.if-i-text.false)) c.requires.0.0)
@@ -33,4 +33,4 @@ returns c =
     let a = c.args in
     let e = c.line_drops.ensures in
     let j = c.after-j in
-    record { answer = e.0 ∙ first-line (reading_of a.mode.0) a.text.now a.paths.now a.i a.k a.in-loop a.e j.result _ (omega (arith, c.if-i-text.false)) c.requires.0.0 j.ensures (omega (arith, c.if-k-paths.false)) refl; memory = e.1 }
+    record { answer = e.answer ∙ first-line (reading_of a.mode.0) a.text.now a.paths.now a.i a.k a.in_loop a.e j.result _ (omega (arith, c.if-i-text.false)) c.requires.0.0 j.ensures (omega (arith, c.if-k-paths.false)) refl; memory = e.memory }

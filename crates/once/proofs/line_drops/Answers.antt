@@ -14,23 +14,23 @@ use Rattle.once.proofs.line_drops.Goals as goal
 pub store_drops-requires : goal.store_drops-requires
 store_drops-requires c =
     let a = c.args in
-    let s = c.q-1.given.0.0 in
-    (zeroed-less (let h = value_room s.from s.to a.line.now in let q = ap length c.value_of-x.ensures in omega arith) c.requires.1.0, (c.requires.1.1.0 s (sym c.requires.0 ∙ c.q-1.given.1), c.requires.1.1.1))
+    let s = c.in-Store.s in
+    (zeroed-less (let h = value_room s.from s.to a.line.now in let q = ap length c.value_of-x.ensures in omega arith) c.requires.1.0, (c.requires.1.1.0 s (sym c.requires.0 ∙ c.in-Store.is), c.requires.1.1.1))
 
 pub returns-in-Decl : goal.returns-in-Decl
 returns-in-Decl c =
     let a = c.args in
-    record { answer = ap (drops_by (reading_of a.mode.0) a.line.now a.p a.in-loop (lines_of a.below.now) a.paths.now) (sym c.enum_told-1.given.1) ∙ drops-at (reading_of a.mode.0) a.line.now a.p a.in-loop (lines_of a.below.now) a.paths.now _ c.requires.0; memory = refl }
+    record { answer = ap (drops_by (reading_of a.mode.0) a.line.now a.p a.in_loop (lines_of a.below.now) a.paths.now) (sym c.in-Decl.is) ∙ drops-at (reading_of a.mode.0) a.line.now a.p a.in_loop (lines_of a.below.now) a.paths.now _ c.requires.0; memory = refl }
 
 pub returns-in-Store : goal.returns-in-Store
 unfolding text_of
 returns-in-Store c =
     let a = c.args in
     let e = c.store_drops.ensures in
-    let s = c.q-1.given in
-    record { answer = e.0 ∙ ap (λ (x : List ℕ). store_drops (reading_of a.mode.0) s.0.0.reg.0 x a.p a.in-loop (lines_of a.below.now) a.paths.now) c.value_of-x.ensures ∙ ap (drops_by (reading_of a.mode.0) a.line.now a.p a.in-loop (lines_of a.below.now) a.paths.now) (sym s.1) ∙ drops-at (reading_of a.mode.0) a.line.now a.p a.in-loop (lines_of a.below.now) a.paths.now _ c.requires.0; memory = e.1 }
+    let s = c.in-Store.s in
+    record { answer = e.answer ∙ ap (λ (x : List ℕ). store_drops (reading_of a.mode.0) s.reg.0 x a.p a.in_loop (lines_of a.below.now) a.paths.now) c.value_of-x.ensures ∙ ap (drops_by (reading_of a.mode.0) a.line.now a.p a.in_loop (lines_of a.below.now) a.paths.now) (sym c.in-Store.is) ∙ drops-at (reading_of a.mode.0) a.line.now a.p a.in_loop (lines_of a.below.now) a.paths.now _ c.requires.0; memory = e.memory }
 
 pub returns-in-Other : goal.returns-in-Other
 returns-in-Other c =
     let a = c.args in
-    record { answer = ap (drops_by (reading_of a.mode.0) a.line.now a.p a.in-loop (lines_of a.below.now) a.paths.now) (sym c.enum_told-in-Other-1.given.1) ∙ drops-at (reading_of a.mode.0) a.line.now a.p a.in-loop (lines_of a.below.now) a.paths.now _ c.requires.0; memory = refl }
+    record { answer = ap (drops_by (reading_of a.mode.0) a.line.now a.p a.in_loop (lines_of a.below.now) a.paths.now) (sym c.in-Other.is) ∙ drops-at (reading_of a.mode.0) a.line.now a.p a.in_loop (lines_of a.below.now) a.paths.now _ c.requires.0; memory = refl }

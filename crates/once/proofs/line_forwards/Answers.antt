@@ -15,23 +15,23 @@ use Rattle.once.proofs.line_forwards.Goals as goal
 pub store_forwards-requires : goal.store_forwards-requires
 store_forwards-requires c =
     let a = c.args in
-    let s = c.p-1.given.0.0 in
-    (zeroed-less (let h = value_room s.from s.to a.line.now in let q = ap length c.value_of-x.ensures in omega arith) c.requires.1.0, (c.requires.1.1.0 s (sym c.requires.0 ∙ c.p-1.given.1), c.requires.1.1.1 s (sym c.requires.0 ∙ c.p-1.given.1)))
+    let s = c.in-Store.s in
+    (zeroed-less (let h = value_room s.from s.to a.line.now in let q = ap length c.value_of-x.ensures in omega arith) c.requires.1.0, (c.requires.1.1.0 s (sym c.requires.0 ∙ c.in-Store.is), c.requires.1.1.1 s (sym c.requires.0 ∙ c.in-Store.is)))
 
 pub returns-in-Decl : goal.returns-in-Decl
 returns-in-Decl c =
     let a = c.args in
-    record { answer = ap (forwards_by (reading_of a.mode.0) a.line.now (region (lines_of a.run.now)) a.in-loop a.gone a.next.now (lines_of a.below.now)) (sym c.enum_told-1.given.1) ∙ forwards-at (reading_of a.mode.0) a.line.now (region (lines_of a.run.now)) a.in-loop a.gone a.next.now (lines_of a.below.now) _ c.requires.0; memory = refl }
+    record { answer = ap (forwards_by (reading_of a.mode.0) a.line.now (region (lines_of a.run.now)) a.in_loop a.gone a.next.now (lines_of a.below.now)) (sym c.in-Decl.is) ∙ forwards-at (reading_of a.mode.0) a.line.now (region (lines_of a.run.now)) a.in_loop a.gone a.next.now (lines_of a.below.now) _ c.requires.0; memory = refl }
 
 pub returns-in-Store : goal.returns-in-Store
 unfolding text_of
 returns-in-Store c =
     let a = c.args in
     let e = c.store_forwards.ensures in
-    let s = c.p-1.given in
-    record { answer = e.0 ∙ ap (λ (x : List ℕ). store_forwards (reading_of a.mode.0) s.0.0.reg.0 x (region (lines_of a.run.now)) a.in-loop a.gone a.next.now (lines_of a.below.now)) c.value_of-x.ensures ∙ ap (forwards_by (reading_of a.mode.0) a.line.now (region (lines_of a.run.now)) a.in-loop a.gone a.next.now (lines_of a.below.now)) (sym s.1) ∙ forwards-at (reading_of a.mode.0) a.line.now (region (lines_of a.run.now)) a.in-loop a.gone a.next.now (lines_of a.below.now) _ c.requires.0; memory = e.1 }
+    let s = c.in-Store.s in
+    record { answer = e.answer ∙ ap (λ (x : List ℕ). store_forwards (reading_of a.mode.0) s.reg.0 x (region (lines_of a.run.now)) a.in_loop a.gone a.next.now (lines_of a.below.now)) c.value_of-x.ensures ∙ ap (forwards_by (reading_of a.mode.0) a.line.now (region (lines_of a.run.now)) a.in_loop a.gone a.next.now (lines_of a.below.now)) (sym c.in-Store.is) ∙ forwards-at (reading_of a.mode.0) a.line.now (region (lines_of a.run.now)) a.in_loop a.gone a.next.now (lines_of a.below.now) _ c.requires.0; memory = e.memory }
 
 pub returns-in-Other : goal.returns-in-Other
 returns-in-Other c =
     let a = c.args in
-    record { answer = ap (forwards_by (reading_of a.mode.0) a.line.now (region (lines_of a.run.now)) a.in-loop a.gone a.next.now (lines_of a.below.now)) (sym c.enum_told-in-Other-1.given.1) ∙ forwards-at (reading_of a.mode.0) a.line.now (region (lines_of a.run.now)) a.in-loop a.gone a.next.now (lines_of a.below.now) _ c.requires.0; memory = refl }
+    record { answer = ap (forwards_by (reading_of a.mode.0) a.line.now (region (lines_of a.run.now)) a.in_loop a.gone a.next.now (lines_of a.below.now)) (sym c.in-Other.is) ∙ forwards-at (reading_of a.mode.0) a.line.now (region (lines_of a.run.now)) a.in_loop a.gone a.next.now (lines_of a.below.now) _ c.requires.0; memory = refl }

@@ -13,7 +13,7 @@ use Rattle.once.proofs.mark_at.Goals as goal
 pub returns-then-j-text : goal.returns-then-j-text
 returns-then-j-text c =
     let a = c.args in
-    record { answer = mark-stays (takes-end (reading_of a.mode.0) a.line.now (region (lines_of a.run.now)) a.in-loop a.next a.text.now a.j c.if-j-text.true); memory = refl }
+    record { answer = mark-stays (takes-end (reading_of a.mode.0) a.line.now (region (lines_of a.run.now)) a.in_loop a.next a.text.now a.j c.if-j-text.true); memory = refl }
 
 pub slice_bounds-line_forwards-end : goal.slice_bounds-line_forwards-end
 slice_bounds-line_forwards-end c = let a = c.args in omega (arith, find-le 10 a.text.now a.j a.e (omega (arith, c.if-j-text.false)) c.requires.1.0)
@@ -30,11 +30,11 @@ returns-then-line_forwards c =
     let a = c.args in
     let e = c.line_forwards.ensures in
     let n = c.after-n in
-    record { answer = mark-stays (sym (takes-line (reading_of a.mode.0) a.line.now (region (lines_of a.run.now)) a.in-loop a.next a.text.now a.j a.e n.result (omega (arith, c.if-j-text.false)) c.requires.1.0 n.ensures) ∙ sym e.0 ∙ c.if-line_forwards.true); memory = e.1 }
+    record { answer = mark-stays (sym (takes-line (reading_of a.mode.0) a.line.now (region (lines_of a.run.now)) a.in_loop a.next a.text.now a.j a.e n.result (omega (arith, c.if-j-text.false)) c.requires.1.0 n.ensures) ∙ sym e.answer ∙ c.if-line_forwards.true); memory = e.memory }
 
 pub returns : goal.returns
 returns c =
     let a = c.args in
     let e = c.line_forwards.ensures in
     let n = c.after-n in
-    record { answer = mark-stays (sym (takes-line (reading_of a.mode.0) a.line.now (region (lines_of a.run.now)) a.in-loop a.next a.text.now a.j a.e n.result (omega (arith, c.if-j-text.false)) c.requires.1.0 n.ensures) ∙ sym e.0 ∙ c.if-line_forwards.false); memory = e.1 }
+    record { answer = mark-stays (sym (takes-line (reading_of a.mode.0) a.line.now (region (lines_of a.run.now)) a.in_loop a.next a.text.now a.j a.e n.result (omega (arith, c.if-j-text.false)) c.requires.1.0 n.ensures) ∙ sym e.answer ∙ c.if-line_forwards.false); memory = e.memory }

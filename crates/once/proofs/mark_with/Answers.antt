@@ -13,11 +13,6 @@ use Rattle.once.proofs.NotedFills.{rows_start, rows_on, area-begin, area-after, 
 use Rattle.once.proofs.Fills.{lines_at, MarksInv, fill_start, fill-place, fill_on, fill_end}
 use Rattle.once.proofs.mark_with.Goals as goal
 
-abbrev invariant-loop : tie.invariant-loop
-invariant-loop mode text paths loops calm notes ends scratch₀ marks₀ run₀ i₀ k₀ scratch marks run i k =
-    (scratch ≡ scratch₀)
-    × (Zeroed (length text) scratch × (MarksInv (reading_of mode.0) text paths loops marks₀ marks i k run × ((lines_of (drop i text) ≡ drop k (lines_of text)) × AreaInv (lines_of text) k (lines_at text run))))
-
 pub loop-i-init : goal.loop-i-init
 loop-i-init c =
     let a = c.args in

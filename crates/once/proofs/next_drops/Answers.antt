@@ -33,4 +33,4 @@ pub returns : goal.returns
 returns c =
     let a = c.args in
     let e = c.drops_at.ensures in
-    record { answer = e.0 ∙ ap (λ (f : ℕ). first_drops (reading_of a.mode.0) (lines_of (drop a.j a.text.now)) (drop a.k a.paths.now) (is_set f)) c.byte_at-h.ensures; memory = e.1 }
+    record { answer = e.answer ∙ ap (λ (f : ℕ). first_drops (reading_of a.mode.0) (lines_of (drop a.j a.text.now)) (drop a.k a.paths.now) (is_set f)) c.byte_at-h.ensures; memory = e.memory }

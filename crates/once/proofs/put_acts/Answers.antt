@@ -53,7 +53,7 @@ pub put_lines-requires : goal.put_lines-requires
 put_lines-requires c = last_fits c.loop-i.invariant c.loop-i-test.false c.cut-2.result.now c.cut-2.ensures
 
 pub shape_of-out : goal.shape_of-out
-shape_of-out c = c.put_lines.auto.1.0 ∙ writing-length c.loop-i.invariant.writing
+shape_of-out c = c.put_lines.auto.out ∙ writing-length c.loop-i.invariant.writing
 
 pub returns : goal.returns
 returns c = acts-end c.loop-i.invariant c.loop-i-test.false c.cut-2.result.now c.cut-2.ensures c.put_lines.ensures

@@ -8,29 +8,29 @@ use Rattle.once.proofs.put_into.Goals as goal
 pub put_replaced-p-requires : goal.put_replaced-p-requires
 put_replaced-p-requires c =
     let a = c.args in
-    let w = c.w-1.given in
-    let h = fits-as a.o (into_one a.reg.0 a.line.now a.x.now w.0.0 (sym c.find_reg.ensures ∙ w.1)) c.requires in
-    omega (arith, h, line-long (replaced_at w.0.0.from w.0.0.to a.line.now a.x.now))
+    let w = c.in-One.w in
+    let h = fits-as a.o (into_one a.reg.0 a.line.now a.x.now w (sym c.find_reg.ensures ∙ c.in-One.is)) c.requires in
+    omega (arith, h, line-long (replaced_at w.from w.to a.line.now a.x.now))
 
 pub put_byte-requires : goal.put_byte-requires
 put_byte-requires c =
     let a = c.args in
-    let w = c.w-1.given in
-    let h = fits-as a.o (into_one a.reg.0 a.line.now a.x.now w.0.0 (sym c.find_reg.ensures ∙ w.1)) c.requires in
-    omega (arith, h, line-long (replaced_at w.0.0.from w.0.0.to a.line.now a.x.now), c.put_replaced-p.ensures.place, wrote-length c.put_replaced-p.ensures)
+    let w = c.in-One.w in
+    let h = fits-as a.o (into_one a.reg.0 a.line.now a.x.now w (sym c.find_reg.ensures ∙ c.in-One.is)) c.requires in
+    omega (arith, h, line-long (replaced_at w.from w.to a.line.now a.x.now), c.put_replaced-p.ensures.place, wrote-length c.put_replaced-p.ensures)
 
 pub put_line-requires : goal.put_line-requires
 put_line-requires c =
     let a = c.args in
-    fits-as a.o (line-is _ ∙ into-not a.reg.0 a.line.now a.x.now (sym c.find_reg.ensures ∙ c.enum_told-1.given.1)) c.requires
+    fits-as a.o (line-is _ ∙ into-not a.reg.0 a.line.now a.x.now (sym c.find_reg.ensures ∙ c.in-Not.is)) c.requires
 
 pub returns-in-One : goal.returns-in-One
 returns-in-One c =
     let a = c.args in
-    let w = c.w-1.given in
-    wrote_as (line-is _ ∙ into_one a.reg.0 a.line.now a.x.now w.0.0 (sym c.find_reg.ensures ∙ w.1)) (wrote_then c.put_replaced-p.ensures c.put_byte.ensures)
+    let w = c.in-One.w in
+    wrote_as (line-is _ ∙ into_one a.reg.0 a.line.now a.x.now w (sym c.find_reg.ensures ∙ c.in-One.is)) (wrote_then c.put_replaced-p.ensures c.put_byte.ensures)
 
 pub returns-in-Not : goal.returns-in-Not
 returns-in-Not c =
     let a = c.args in
-    wrote_as (line-is _ ∙ into-not a.reg.0 a.line.now a.x.now (sym c.find_reg.ensures ∙ c.enum_told-1.given.1)) c.put_line.ensures
+    wrote_as (line-is _ ∙ into-not a.reg.0 a.line.now a.x.now (sym c.find_reg.ensures ∙ c.in-Not.is)) c.put_line.ensures

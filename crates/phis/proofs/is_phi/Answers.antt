@@ -3,4 +3,4 @@ use Rattle.names.specs.Names.{phi_is}
 use Rattle.phis.proofs.is_phi.Goals as goal
 
 pub returns-in-Phi : goal.returns-in-Phi
-returns-in-Phi c = sym (ap (phi_is c.args.phi.0) c.name-1.given.1)
+returns-in-Phi c = sym (ap (phi_is c.args.phi.0) c.in-Phi.is)

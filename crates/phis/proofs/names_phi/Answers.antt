@@ -3,7 +3,7 @@ use Rattle.phis.specs.Phis.{is_phi}
 use Rattle.phis.proofs.names_phi.Goals as goal
 
 pub returns-in-Phi : goal.returns-in-Phi
-returns-in-Phi c = sym (ap is_phi (sym c.phi_name.ensures ∙ c.q-1.given.1))
+returns-in-Phi c = sym (ap is_phi (sym c.phi_name.ensures ∙ c.in-Phi.is))
 
 pub returns-in-None : goal.returns-in-None
-returns-in-None c = sym (ap is_phi (sym c.phi_name.ensures ∙ c.enum_told-1.given.1))
+returns-in-None c = sym (ap is_phi (sym c.phi_name.ensures ∙ c.in-None.is))

@@ -1,5 +1,4 @@
 use native.Mathlib.Omega.{arith}
-use borrow.Author.Tests.{not-true, not-false}
 use mathlib.Core.Path.{sym, ◌∙◌}
 use Rattle.lines.proofs.Tests.{so}
 use Rattle.phis.proofs.Lines.{decl-long, own-store, own-other, own-decl}
@@ -15,13 +14,13 @@ pub returns-then-not-phi_decl : goal.returns-then-not-phi_decl
 returns-then-not-phi_decl c =
     let a = c.args in
     let phi-store = c.phi_store in
-    sym (own-other a.t.now a.phi.0 phi-store.result phi-store.ensures (so c.is_phi.ensures c.if-is_phi.false) (so c.phi_decl.ensures (not-true _ c.if-not-phi_decl.true)))
+    sym (own-other a.t.now a.phi.0 phi-store.result phi-store.ensures (so c.is_phi.ensures c.if-is_phi.false) (so c.phi_decl.ensures c.if-not-phi_decl.true))
 
 pub overflow_sub-t : goal.overflow_sub-t
-overflow_sub-t c = omega (arith, decl-long c.args.t.now (so c.phi_decl.ensures (not-false _ c.if-not-phi_decl.false)))
+overflow_sub-t c = omega (arith, decl-long c.args.t.now (so c.phi_decl.ensures c.if-not-phi_decl.false))
 
 pub returns : goal.returns
 returns c =
     let a = c.args in
     let phi-store = c.phi_store in
-    c.any_phi.ensures ∙ sym (own-decl a.t.now a.phi.0 phi-store.result phi-store.ensures (so c.is_phi.ensures c.if-is_phi.false) (so c.phi_decl.ensures (not-false _ c.if-not-phi_decl.false)) c.cut.result.now c.cut.ensures)
+    c.any_phi.ensures ∙ sym (own-decl a.t.now a.phi.0 phi-store.result phi-store.ensures (so c.is_phi.ensures c.if-is_phi.false) (so c.phi_decl.ensures c.if-not-phi_decl.false) c.cut.result.now c.cut.ensures)

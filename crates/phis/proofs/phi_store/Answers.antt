@@ -10,10 +10,10 @@ returns-then-is_let c = sym (store-let c.args.t.now (so c.is_let.ensures c.if-is
 pub returns-in-Split : goal.returns-in-Split
 returns-in-Split c =
     let a = c.args in
-    let w = assign-split a.t.now _ (sym c.assign_of.ensures ∙ c.s-1.given.1) in
+    let w = assign-split a.t.now _ (sym c.assign_of.ensures ∙ c.in-Split.is) in
     c.phi_name.ensures ∙ sym (store_of a.t.now c.left_of.result.now (c.left_of.ensures ∙ w.is-left) (so c.is_let.ensures c.if-is_let.false) w.assigns)
 
 pub returns-in-None : goal.returns-in-None
 returns-in-None c =
     let a = c.args in
-    sym (store_other a.t.now (so c.is_let.ensures c.if-is_let.false) (assign-not a.t.now (sym c.assign_of.ensures ∙ c.enum_told-1.given.1)))
+    sym (store_other a.t.now (so c.is_let.ensures c.if-is_let.false) (assign-not a.t.now (sym c.assign_of.ensures ∙ c.in-None.is)))

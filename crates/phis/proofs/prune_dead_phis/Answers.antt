@@ -72,25 +72,25 @@ wipe-requires-2 c =
     let put-round2 = c.put_round-b in
     let cut2 = c.cut-2 in
     let h = passed (reading_of a.mode.0) a.text.now cut.result.now cut2.result.now put-round.ensures.answer cut.ensures put-round2.ensures.answer cut2.ensures in
-    omega (arith, wiped-length h _ _ c.larger.ensures c.larger-2.ensures, c.put_round-c.auto.1.1.1.1.1.0 ∙ put-round2.auto.1.1.1.1.1.0 ∙ put-round.auto.1.1.1.1.1.0, c.requires.0)
+    omega (arith, wiped-length h _ _ c.larger.ensures c.larger-2.ensures, c.put_round-c.auto.scratch ∙ put-round2.auto.1.1.1.1.1.0 ∙ put-round.auto.1.1.1.1.1.0, c.requires.0)
 
 pub shape_of-table : goal.shape_of-table
-shape_of-table c = c.wipe.auto.0 ∙ c.put_round-c.auto.1.1.1.1.0 ∙ c.put_round-b.auto.1.1.1.1.0 ∙ c.put_round-a.auto.1.1.1.1.0
+shape_of-table c = c.wipe.auto.s ∙ c.put_round-c.auto.table ∙ c.put_round-b.auto.table ∙ c.put_round-a.auto.table
 
 pub shape_of-scratch : goal.shape_of-scratch
-shape_of-scratch c = c.wipe-2.auto.0 ∙ c.put_round-c.auto.1.1.1.1.1.0 ∙ c.put_round-b.auto.1.1.1.1.1.0 ∙ c.put_round-a.auto.1.1.1.1.1.0
+shape_of-scratch c = c.wipe-2.auto.s ∙ c.put_round-c.auto.scratch ∙ c.put_round-b.auto.scratch ∙ c.put_round-a.auto.scratch
 
 pub shape_of-first : goal.shape_of-first
-shape_of-first c = c.put_round-a.auto.1.1.1.1.1.1.0
+shape_of-first c = c.put_round-a.auto.out
 
 pub shape_of-second : goal.shape_of-second
-shape_of-second c = c.put_round-b.auto.1.1.1.1.1.1.0
+shape_of-second c = c.put_round-b.auto.out
 
 pub shape_of-out : goal.shape_of-out
-shape_of-out c = c.put_round-c.auto.1.1.1.1.1.1.0
+shape_of-out c = c.put_round-c.auto.out
 
 pub shape_of-moves : goal.shape_of-moves
-shape_of-moves c = c.put_round-c.auto.1.1.1.1.1.1.1.0 ∙ c.put_round-b.auto.1.1.1.1.1.1.1.0 ∙ c.put_round-a.auto.1.1.1.1.1.1.1.0 ∙ wrote-length c.stay_lines.ensures
+shape_of-moves c = c.put_round-c.auto.moves ∙ c.put_round-b.auto.moves ∙ c.put_round-a.auto.moves ∙ wrote-length c.stay_lines.ensures
 
 pub returns : goal.returns
 returns c =

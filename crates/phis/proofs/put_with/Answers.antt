@@ -2,7 +2,6 @@ use Prim.Native.Nat.{◌-◌}
 use native.Mathlib.Omega.{arith}
 use mathlib.Core.Path.{refl, sym, ap}
 use lib.ListN.{length}
-use borrow.Author.Tests.{not-true, not-false}
 use Rattle.lines.proofs.Tests.{so}
 use Rattle.lines.proofs.OutLaws.{wrote_as, writing-length}
 use Rattle.reading.specs.Reading.{reading_of}
@@ -15,15 +14,15 @@ pub any_dead-requires : goal.any_dead-requires
 any_dead-requires c = c.requires.0
 
 pub put_lines-p-requires : goal.put_lines-p-requires
-put_lines-p-requires c = omega (arith, c.requires.1.1.0, ap length (none-round (reading_of c.args.mode.0) c.args.text.now (so c.any_dead.ensures (not-true _ c.if-not-any_dead.true))))
+put_lines-p-requires c = omega (arith, c.requires.1.1.0, ap length (none-round (reading_of c.args.mode.0) c.args.text.now (so c.any_dead.ensures c.if-not-any_dead.true)))
 
 pub returns-then-not-any_dead : goal.returns-then-not-any_dead
 returns-then-not-any_dead c =
-    let k = so c.any_dead.ensures (not-true _ c.if-not-any_dead.true) in
+    let k = so c.any_dead.ensures c.if-not-any_dead.true in
     record { answer = wrote_as (none-round (reading_of c.args.mode.0) c.args.text.now k) c.put_lines-p.ensures; found = sym k; memory = refl; moves = none-thin (reading_of c.args.mode.0) c.args.text.now c.args.moves.now k }
 
 pub loop-i-init : goal.loop-i-init
-loop-i-init c = let d = so c.any_dead.ensures (not-false _ c.if-not-any_dead.false) in (round-start _ _ _ _ c.requires.1.0 c.requires.1.1.0 d, thin-start _ _ _ d c.requires.1.1.1)
+loop-i-init c = let d = so c.any_dead.ensures c.if-not-any_dead.false in (round-start _ _ _ _ c.requires.1.0 c.requires.1.1.0 d, thin-start _ _ _ d c.requires.1.1.1)
 
 pub put_line-p-requires : goal.put_line-p-requires
 put_line-p-requires c = let find-byte = c.find_byte-e in let cut = c.cut in (c.requires.0, round_room c.loop-i.invariant.0 find-byte.result c.loop-i-test.true find-byte.ensures cut.result.now cut.ensures)
@@ -55,4 +54,4 @@ shape_of-moves c = c.loop-i.invariant.1.same
 
 pub returns : goal.returns
 returns c =
-    record { answer = round-end c.loop-i.invariant.0 c.loop-i-test.false; found = sym (so c.any_dead.ensures (not-false _ c.if-not-any_dead.false)); memory = c.loop-i.invariant.0.memory; moves = thin-end c.loop-i.invariant.1 c.loop-i-test.false }
+    record { answer = round-end c.loop-i.invariant.0 c.loop-i-test.false; found = sym (so c.any_dead.ensures c.if-not-any_dead.false); memory = c.loop-i.invariant.0.memory; moves = thin-end c.loop-i.invariant.1 c.loop-i-test.false }

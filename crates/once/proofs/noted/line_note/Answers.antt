@@ -7,4 +7,4 @@ pub store_note-requires : goal.store_note-requires
 store_note-requires c = c.requires
 
 pub returns-in-Store : goal.returns-in-Store
-returns-in-Store c = c.store_note.ensures ∙ sym (ap (λ (p : Line). line_note c.args.own.now p c.args.paths.now c.args.k c.args.m c.args.h c.args.near.now c.args.far.now c.args.stores.now) c.p-1.given.1)
+returns-in-Store c = c.store_note.ensures ∙ sym (ap (λ (p : Line). line_note c.args.own.now p c.args.paths.now c.args.k c.args.m c.args.h c.args.near.now c.args.far.now c.args.stores.now) c.in-Store.is)

@@ -9,11 +9,11 @@ note_read-requires c = c.requires
 
 pub returns-in-Reg : goal.returns-in-Reg
 returns-in-Reg c =
-    let e = sym c.reg_name.ensures ∙ c.q-1.given.1 in
+    let e = sym c.reg_name.ensures ∙ c.in-Reg.is in
     let r = c.note_read.ensures in
-    record { rows = r.0 ∙ sym (ap (λ (r : RegName). mark_name c.args.own.now c.args.m r c.args.near.now) e); seconds = r.1.0 ∙ sym (ap (λ (r : RegName). far_name c.args.own.now r c.args.near.now c.args.far.now) e); notes = r.1.1 ∙ sym (ap (λ (r : RegName). back_name c.args.own.now c.args.n c.args.h r c.args.near.now c.args.far.now c.args.notes.now) e) }
+    record { rows = r.rows ∙ sym (ap (λ (r : RegName). mark_name c.args.own.now c.args.m r c.args.near.now) e); seconds = r.seconds ∙ sym (ap (λ (r : RegName). far_name c.args.own.now r c.args.near.now c.args.far.now) e); notes = r.notes ∙ sym (ap (λ (r : RegName). back_name c.args.own.now c.args.n c.args.h r c.args.near.now c.args.far.now c.args.notes.now) e) }
 
 pub returns-in-None : goal.returns-in-None
 returns-in-None c =
-    let e = sym c.reg_name.ensures ∙ c.enum_told-1.given.1 in
+    let e = sym c.reg_name.ensures ∙ c.in-None.is in
     record { rows = sym (ap (λ (r : RegName). mark_name c.args.own.now c.args.m r c.args.near.now) e); seconds = sym (ap (λ (r : RegName). far_name c.args.own.now r c.args.near.now c.args.far.now) e); notes = sym (ap (λ (r : RegName). back_name c.args.own.now c.args.n c.args.h r c.args.near.now c.args.far.now c.args.notes.now) e) }

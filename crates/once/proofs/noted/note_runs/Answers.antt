@@ -26,7 +26,7 @@ loop-i-smaller c = omega (arith, c.loop-i-test.true, reads-less c.args.own.now c
 pub loop-i-preserved : goal.loop-i-preserved
 loop-i-preserved c =
     let e = c.note_name.ensures in
-    reads_on c.args.own.now c.args.n c.args.h c.args.m c.loop-i.invariant c.loop-i-test.true _ c.run_end-e.ensures _ c.reg_start-i-in-loop-i.ensures _ refl _ (rw (e.0, e.1.0, e.1.1))
+    reads_on c.args.own.now c.args.n c.args.h c.args.m c.loop-i.invariant c.loop-i-test.true _ c.run_end-e.ensures _ c.reg_start-i-in-loop-i.ensures _ refl _ (rw (e.rows, e.seconds, e.notes))
 
 pub shape_of-near : goal.shape_of-near
 shape_of-near c = c.loop-i.invariant.long

@@ -9,12 +9,12 @@ note_write-requires c = c.requires
 
 pub returns-in-Decl : goal.returns-in-Decl
 returns-in-Decl c =
-    record { alone = sym (ap (λ (p : Line). alone_store c.args.own.now c.args.m c.args.x p c.args.far.now) c.enum_told-1.given.1); stores = sym (ap (λ (p : Line). mark_store c.args.own.now c.args.m p c.args.stores.now) c.enum_told-1.given.1) }
+    record { alone = sym (ap (λ (p : Line). alone_store c.args.own.now c.args.m c.args.x p c.args.far.now) c.in-Decl.is); stores = sym (ap (λ (p : Line). mark_store c.args.own.now c.args.m p c.args.stores.now) c.in-Decl.is) }
 
 pub returns-in-Store : goal.returns-in-Store
 returns-in-Store c =
-    record { alone = c.note_write.ensures.alone ∙ sym (ap (λ (p : Line). alone_store c.args.own.now c.args.m c.args.x p c.args.far.now) c.p-1.given.1); stores = c.note_write.ensures.stores ∙ sym (ap (λ (p : Line). mark_store c.args.own.now c.args.m p c.args.stores.now) c.p-1.given.1) }
+    record { alone = c.note_write.ensures.alone ∙ sym (ap (λ (p : Line). alone_store c.args.own.now c.args.m c.args.x p c.args.far.now) c.in-Store.is); stores = c.note_write.ensures.stores ∙ sym (ap (λ (p : Line). mark_store c.args.own.now c.args.m p c.args.stores.now) c.in-Store.is) }
 
 pub returns-in-Other : goal.returns-in-Other
 returns-in-Other c =
-    record { alone = sym (ap (λ (p : Line). alone_store c.args.own.now c.args.m c.args.x p c.args.far.now) c.enum_told-in-Other-1.given.1); stores = sym (ap (λ (p : Line). mark_store c.args.own.now c.args.m p c.args.stores.now) c.enum_told-in-Other-1.given.1) }
+    record { alone = sym (ap (λ (p : Line). alone_store c.args.own.now c.args.m c.args.x p c.args.far.now) c.in-Other.is); stores = sym (ap (λ (p : Line). mark_store c.args.own.now c.args.m p c.args.stores.now) c.in-Other.is) }

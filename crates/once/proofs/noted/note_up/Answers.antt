@@ -1,7 +1,6 @@
 use Prim.Native.Nat.{ℕ, ◌+◌, ◌-◌}
 use mathlib.Core.Path.{◌≡◌, refl, sym, ap, ◌∙◌}
 use mathlib.Core.List.{List}
-use borrow.Author.Tests.{not-false}
 use native.Mathlib.Omega.{arith}
 use lib.ListN.{length, length-set}
 use Rattle.lines.specs.Lf.{part, lines_of}
@@ -24,7 +23,7 @@ pub loop-i-init : goal.loop-i-init
 loop-i-init c =
     let a = c.args in
     let z = c.requires.1.1 in
-    (note-start a.own.now a.text.now a.paths.now a.near.now a.far.now a.stores.now a.notes.now (sym c.ends_lf.ensures ∙ not-false _ c.if-not-ends_lf.false) c.requires.1.0 z.0 z.1.0 z.1.1.0 z.1.1.1.0, (refl, (refl, (refl, refl))))
+    (note-start a.own.now a.text.now a.paths.now a.near.now a.far.now a.stores.now a.notes.now (sym c.ends_lf.ensures ∙ c.if-not-ends_lf.false) c.requires.1.0 z.0 z.1.0 z.1.1.0 z.1.1.1.0, (refl, (refl, (refl, refl))))
 
 pub row_of-k-requires : goal.row_of-k-requires
 row_of-k-requires c = note-row c.loop-i.invariant.0 c.loop-i-test.true c.requires.0
@@ -62,8 +61,8 @@ loop-i-preserved c =
     let r = c.note_line.ensures in
     let w : List ℕ = part c.start_at-a.result (l.i - 1) a.text.now in
     let z = l.invariant.1 in
-    let y = note-lengths a.own.now (length a.paths.now) l.h (l.m + 1) c.line_note-x.result l.near l.far l.stores _ c.parse-p.result w r.0 r.1 in
-    (note-on l.invariant.0 c.loop-i-test.true c.start_at-a.result c.start_at-a.ensures c.requires.0 w c.parse-p.result c.row_of-k.result c.line_note-x.result _ _ _ _ _ c.head_at-h.result refl c.parse-p.ensures c.row_of-k.ensures c.line_note-x.ensures c.put_note.ensures r.0 r.1 c.head_at-h.ensures, (y.0 ∙ z.0, (y.1.0 ∙ z.1.0, (y.1.1.0 ∙ z.1.1.0, y.1.1.1 ∙ ap length c.put_note.ensures ∙ length-set l.notes _ _ ∙ z.1.1.1))))
+    let y = note-lengths a.own.now (length a.paths.now) l.h (l.m + 1) c.line_note-x.result l.near l.far l.stores _ c.parse-p.result w r.rows r.stores in
+    (note-on l.invariant.0 c.loop-i-test.true c.start_at-a.result c.start_at-a.ensures c.requires.0 w c.parse-p.result c.row_of-k.result c.line_note-x.result _ _ _ _ _ c.head_at-h.result refl c.parse-p.ensures c.row_of-k.ensures c.line_note-x.ensures c.put_note.ensures r.rows r.stores c.head_at-h.ensures, (y.0 ∙ z.0, (y.1.0 ∙ z.1.0, (y.1.1.0 ∙ z.1.1.0, y.1.1.1 ∙ ap length c.put_note.ensures ∙ length-set l.notes _ _ ∙ z.1.1.1))))
 
 pub shape_of-near : goal.shape_of-near
 shape_of-near c = c.loop-i.invariant.1.0
