@@ -20,7 +20,7 @@ block_paths-x-requires c = (c.requires.1.1.0, (c.requires.1.1.1.0, c.requires.1.
 pub fill_loops-n-requires : goal.fill_loops-n-requires
 fill_loops-n-requires c =
     let b = c.block_paths-x.ensures in
-    (b.1.0, (b.0.0.place ∙ length-tops (lines_of c.args.text.now), c.requires.0))
+    (b.loops, (b.paths.0.place ∙ length-tops (lines_of c.args.text.now), c.requires.0))
 
 pub slice_bounds-fill_marks-end : goal.slice_bounds-fill_marks-end
 slice_bounds-fill_marks-end c = omega (arith, filled-le c.block_paths-x.ensures.paths.0)
@@ -32,7 +32,7 @@ pub fill_marks-requires : goal.fill_marks-requires
 fill_marks-requires c =
     let a = c.args in
     let b = c.block_paths-x.ensures in
-    (zeroed-wiped c.wipe.ensures, (c.requires.1.0, (ap length (filled-part b.0.0) ∙ length-tops (lines_of a.text.now), (c.requires.1.1.1.1.1.1, ends_of a.text.now _ _ (wiped-most (length a.ends.now) _ c.wipe-2.ensures) b.1.1))))
+    (zeroed-wiped c.wipe.ensures, (c.requires.1.0, (ap length (filled-part b.paths.0) ∙ length-tops (lines_of a.text.now), (c.requires.1.1.1.1.1.1, ends_of a.text.now _ _ (wiped-most (length a.ends.now) _ c.wipe-2.ensures) b.ends))))
 
 pub shape_of-scratch : goal.shape_of-scratch
 shape_of-scratch c = c.fill_marks.auto.scratch ∙ c.wipe.auto.s
@@ -70,4 +70,4 @@ returns c =
     let b = c.block_paths-x.ensures in
     let f = c.fill_loops-n.ensures in
     let e = c.fill_marks.ensures in
-    record { answer = marks-filled (reading_of a.mode.0) (lines_of a.text.now) (filled-part b.0.0) (filled-part f) e.answer; memory = (wrote-same e.memory c.wipe.ensures, (filled-to f, (filled-to b.0.0, b.0.1))); tables = e.tables; ends = b.1.1 ∙ ap (ends_from 0 0 (lines_of a.text.now)) c.wipe-2.ensures }
+    record { answer = marks-filled (reading_of a.mode.0) (lines_of a.text.now) (filled-part b.paths.0) (filled-part f) e.answer; memory = (wrote-same e.memory c.wipe.ensures, (filled-to f, (filled-to b.paths.0, b.paths.1))); tables = e.tables; ends = b.ends ∙ ap (ends_from 0 0 (lines_of a.text.now)) c.wipe-2.ensures }

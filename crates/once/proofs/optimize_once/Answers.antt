@@ -82,4 +82,4 @@ returns c =
     let r = d.memory in
     let z = d.tables in
     let p = c.prune_decls.ensures in
-    record { answer = wrote_as (once-text (reading_of a.mode.0) t _ (wrote-first w ∙ q)) p.0; memory = (r.0, (wrote-to (wrote_as q w), (r.1.0, (filled-to d.answer, (r.1.1.0, r.1.1.1))))); tables = (z.0, (z.1.0, (z.1.1.0, (z.1.1.1, (c.wipe.ensures ∙ ap (λ (n : ℕ). replicate n 0) c.decide-n.auto.ends, p.1.0))))); moves = mid-moves (reading_of a.mode.0) t _ (wrote-first w ∙ q) p.1.1 }
+    record { answer = wrote_as (once-text (reading_of a.mode.0) t _ (wrote-first w ∙ q)) p.answer; memory = (r.0, (wrote-to (wrote_as q w), (r.1.0, (filled-to d.answer, (r.1.1.0, r.1.1.1))))); tables = (z.0, (z.1.0, (z.1.1.0, (z.1.1.1, (c.wipe.ensures ∙ ap (λ (n : ℕ). replicate n 0) c.decide-n.auto.ends, p.memory))))); moves = mid-moves (reading_of a.mode.0) t _ (wrote-first w ∙ q) p.moves }

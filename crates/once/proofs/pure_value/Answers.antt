@@ -8,12 +8,10 @@ use Rattle.once.proofs.pure_value.Goals as goal
 
 pub purity-p-requires : goal.purity-p-requires
 purity-p-requires c =
-    let a = c.before.before.before.before in
-    omega (arith, cut-length c.is_strict.result a.args.x.now, a.requires)
+    omega (arith, cut-length c.is_strict.result c.args.x.now, c.requires)
 
 pub returns : goal.returns
 returns c =
-    let a = c.before.before.before.before.before.before.before.before.before.before.before.before in
     let g = c.is_strict in
     let e = c.purity-p.ensures in
-    record { answer = c.is_pure.ensures ∙ ap is_pure (e.0 ∙ ap (λ (b : Bool). purity_in b a.args.x.now) g.ensures); memory = wiped-over (cut_in g.result a.args.x.now) a.requires (cut-length g.result a.args.x.now) e.1 c.wipe.ensures }
+    record { answer = c.is_pure.ensures ∙ ap is_pure (e.answer ∙ ap (λ (b : Bool). purity_in b c.args.x.now) g.ensures); memory = wiped-over (cut_in g.result c.args.x.now) c.requires (cut-length g.result c.args.x.now) e.memory c.wipe.ensures }

@@ -26,4 +26,4 @@ shape_of-notes c = c.note_up.auto.notes ∙ c.wipe.auto.s
 pub returns : goal.returns
 returns c =
     let k = c.note_up.auto in
-    record { once = c.note_up.ensures.once; notes = c.note_up.ensures.notes; memory = (c.wipe_numbers-4.ensures ∙ ap (λ (n : ℕ). replicate n 0) (k.1.1.1.0 ∙ c.wipe_numbers.auto.numbers), (c.wipe_numbers-5.ensures ∙ ap (λ (n : ℕ). replicate n 0) (k.1.1.1.1.0 ∙ c.wipe_numbers-2.auto.numbers), c.wipe_numbers-6.ensures ∙ ap (λ (n : ℕ). replicate n 0) (k.1.1.1.1.1.0 ∙ c.wipe_numbers-3.auto.numbers))) }
+    record { once = c.note_up.ensures.once; notes = c.note_up.ensures.notes; memory = (c.wipe_numbers-4.ensures ∙ ap (λ (n : ℕ). replicate n 0) (k.near ∙ c.wipe_numbers.auto.numbers), (c.wipe_numbers-5.ensures ∙ ap (λ (n : ℕ). replicate n 0) (k.far ∙ c.wipe_numbers-2.auto.numbers), c.wipe_numbers-6.ensures ∙ ap (λ (n : ℕ). replicate n 0) (k.stores ∙ c.wipe_numbers-3.auto.numbers))) }

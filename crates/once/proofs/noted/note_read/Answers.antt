@@ -17,12 +17,10 @@ bounds-far-v-2 c = omega (arith, c.if-near-v.false, c.requires)
 
 pub returns-then-h-r : goal.returns-then-h-r
 returns-then-h-r c =
-    let r = read-in
-    let whole = c.args.own.now c.args.reg.0 c.args.near.now c.args.far.now c.slot-v.result c.slot-v.ensures c.requires c.args.m in (r.0, (r.1, c.take_back.ensures ∙ back_on c.args.own.now c.args.reg.0 c.args.near.now c.args.far.now c.slot-v.result c.slot-v.ensures c.requires c.args.n c.args.h c.args.notes.now true c.if-h-r.true)) in
-    record { rows = whole.0; seconds = whole.1.0; notes = whole.1.1 }
+    let r = read-in c.args.own.now c.args.reg.0 c.args.near.now c.args.far.now c.slot-v.result c.slot-v.ensures c.requires c.args.m in
+    record { rows = r.0; seconds = r.1; notes = c.take_back.ensures ∙ back_on c.args.own.now c.args.reg.0 c.args.near.now c.args.far.now c.slot-v.result c.slot-v.ensures c.requires c.args.n c.args.h c.args.notes.now true c.if-h-r.true }
 
 pub returns : goal.returns
 returns c =
-    let r = read-in
-    let whole = c.args.own.now c.args.reg.0 c.args.near.now c.args.far.now c.slot-v.result c.slot-v.ensures c.requires c.args.m in (r.0, (r.1, back_on c.args.own.now c.args.reg.0 c.args.near.now c.args.far.now c.slot-v.result c.slot-v.ensures c.requires c.args.n c.args.h c.args.notes.now false c.if-h-r.false)) in
-    record { rows = whole.0; seconds = whole.1.0; notes = whole.1.1 }
+    let r = read-in c.args.own.now c.args.reg.0 c.args.near.now c.args.far.now c.slot-v.result c.slot-v.ensures c.requires c.args.m in
+    record { rows = r.0; seconds = r.1; notes = back_on c.args.own.now c.args.reg.0 c.args.near.now c.args.far.now c.slot-v.result c.slot-v.ensures c.requires c.args.n c.args.h c.args.notes.now false c.if-h-r.false }

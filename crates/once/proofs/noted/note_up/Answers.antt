@@ -7,10 +7,6 @@ use Rattle.lines.specs.Lf.{part, lines_of}
 use Rattle.once.proofs.NoteFills.{NoteInv, once-none, notes-none, note-start, note-lf, note-row, note-count, note-on, ones-of, note-lengths}
 use Rattle.once.proofs.noted.note_up.Goals as goal
 
-abbrev invariant-loop : tie.invariant-loop
-invariant-loop text own paths near₀ far₀ stores₀ notes₀ ends n i₀ m₀ h₀ near far stores notes i m h =
-    NoteInv own text paths near far stores notes i m h × ((length near ≡ length near₀) × ((length far ≡ length far₀) × ((length stores ≡ length stores₀) × (length notes ≡ length notes₀))))
-
 pub returns-then-not-ends_lf : goal.returns-then-not-ends_lf
 returns-then-not-ends_lf c =
     record { once = once-none (lines_of c.args.text.now) c.args.notes.now c.requires.1.1.1.1.1.0; notes = notes-none (lines_of c.args.text.now) c.args.paths.now c.args.notes.now c.requires.1.1.1.1.1.0 }
