@@ -24,8 +24,7 @@ returns c =
     let purity = c.purity in
     let told = purity.ensures.answer ∙ ap (λ (b : Bool). purity_in b a.x.now) strict.ensures in
     let other = so c.phi_rhs_pure.ensures c.if-phi_rhs_pure.false in
-    let whole = (
-      c.is_pure.ensures ∙ ap is_pure told ∙ sym (ap (λ (b : Bool). pure_in (reading_of a.mode.0) a.x.now || b) other ∙ or-false (pure_in (reading_of a.mode.0) a.x.now)),
-      put-past (cut_in strict.result a.x.now) a.scratch.now _ (length a.x.now) (cut-length strict.result a.x.now) purity.ensures.memory,
-    ) in
-    record { answer = whole.0; memory = whole.1 }
+    record {
+      answer = c.is_pure.ensures ∙ ap is_pure told ∙ sym (ap (λ (b : Bool). pure_in (reading_of a.mode.0) a.x.now || b) other ∙ or-false (pure_in (reading_of a.mode.0) a.x.now));
+      memory = put-past (cut_in strict.result a.x.now) a.scratch.now _ (length a.x.now) (cut-length strict.result a.x.now) purity.ensures.memory
+    }

@@ -8,7 +8,7 @@ use Rattle.phis.proofs.Searches.{any_one, stores_it}
 use Rattle.phis.proofs.phi_stored.Given as goal
 
 abbrev pub invariant-loop-i : goal.invariant-loop-i
-invariant-loop-i l = (l.i ≤ length l.text) × (any_one (λ (l : List ℕ). stores_it l.phi.0 l) (lines_of (drop l.i l.text)) ≡ phi_stored l.phi.0 (lines_of l.text))
+invariant-loop-i l = (l.i ≤ length l.text) × (any_one (λ (x : List ℕ). stores_it l.phi.0 x) (lines_of (drop l.i l.text)) ≡ phi_stored l.phi.0 (lines_of l.text))
 
 abbrev pub decreases-loop-i : goal.decreases-loop-i
 decreases-loop-i l = length l.text - l.i

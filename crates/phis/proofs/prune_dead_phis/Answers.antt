@@ -72,7 +72,7 @@ wipe-requires-2 c =
     let put-round2 = c.put_round-b in
     let cut2 = c.cut-2 in
     let h = passed (reading_of a.mode.0) a.text.now cut.result.now cut2.result.now put-round.ensures.answer cut.ensures put-round2.ensures.answer cut2.ensures in
-    omega (arith, wiped-length h _ _ c.larger.ensures c.larger-2.ensures, c.put_round-c.auto.scratch ∙ put-round2.auto.1.1.1.1.1.0 ∙ put-round.auto.1.1.1.1.1.0, c.requires.0)
+    omega (arith, wiped-length h _ _ c.larger.ensures c.larger-2.ensures, c.put_round-c.auto.scratch ∙ put-round2.auto.scratch ∙ put-round.auto.scratch, c.requires.0)
 
 pub shape_of-table : goal.shape_of-table
 shape_of-table c = c.wipe.auto.s ∙ c.put_round-c.auto.table ∙ c.put_round-b.auto.table ∙ c.put_round-a.auto.table
@@ -106,20 +106,11 @@ returns c =
     let q = wiped-length h _ _ c.larger.ensures c.larger-2.ensures in
     let e = next-lines R t cut.result.now _ _ _ put-round.ensures.answer cut.ensures in
     let f = next-lines R cut.result.now cut2.result.now _ _ _ put-round2.ensures.answer cut2.ensures in
-    let whole = (
-      wrote_as (third-text h) put-round3.ensures.answer,
-      (
-        first-wrote h,
-        (
-          second-wrote h,
-          (
-            scratch-end _ _ _ _ _ _ _ _ _ put-round.ensures.memory put-round2.ensures.memory put-round3.ensures.memory (put-round3.auto.1.1.1.1.1.0 ∙ put-round2.auto.1.1.1.1.1.0 ∙ put-round.auto.1.1.1.1.1.0) (longest-fits h) (wipe-end q c.wipe-2.ensures),
-            (
-              wrote-whole c.wipe.ensures (length-replicate {A = ℕ} (length put-round3.new.1.1.1.1.0) 0) ∙ ap (λ (n : ℕ). replicate n 0) (put-round3.auto.1.1.1.1.0 ∙ put-round2.auto.1.1.1.1.0 ∙ put-round.auto.1.1.1.1.0),
-              three-moves R (lines_of t) (lines_of cut.result.now) (lines_of cut2.result.now) e f c.stay_lines.ensures put-round.ensures.moves put-round2.ensures.moves put-round3.ensures.moves,
-            ),
-          ),
-        ),
-      ),
-    ) in
-    record { answer = whole.0; one = whole.1.0; two = whole.1.1.0; memory = whole.1.1.1.0; noted = whole.1.1.1.1.0; moves = whole.1.1.1.1.1 }
+    record {
+      answer = wrote_as (third-text h) put-round3.ensures.answer;
+      one = first-wrote h;
+      two = second-wrote h;
+      memory = scratch-end _ _ _ _ _ _ _ _ _ put-round.ensures.memory put-round2.ensures.memory put-round3.ensures.memory (put-round3.auto.scratch ∙ put-round2.auto.scratch ∙ put-round.auto.scratch) (longest-fits h) (wipe-end q c.wipe-2.ensures);
+      noted = wrote-whole c.wipe.ensures (length-replicate {A = ℕ} (length put-round3.new.table) 0) ∙ ap (λ (n : ℕ). replicate n 0) (put-round3.auto.table ∙ put-round2.auto.table ∙ put-round.auto.table);
+      moves = three-moves R (lines_of t) (lines_of cut.result.now) (lines_of cut2.result.now) e f c.stay_lines.ensures put-round.ensures.moves put-round2.ensures.moves put-round3.ensures.moves
+    }

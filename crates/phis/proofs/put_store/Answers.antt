@@ -38,5 +38,5 @@ returns-else-no_effect c =
 
 pub returns-in-None : goal.returns-in-None
 returns-in-None c =
-    let whole = no (sym (assign-not c.args.t.now (sym c.assign_of.ensures ∙ c.in-None.is)) ∙ c.requires.0) in
-    record { answer = whole.0; memory = whole.1 }
+    let h = sym (assign-not c.args.t.now (sym c.assign_of.ensures ∙ c.in-None.is)) ∙ c.requires.0 in
+    record { answer = no h; memory = no h }

@@ -39,7 +39,7 @@ loop-i-preserved c =
     let cut = c.cut in
     let put = c.put_line-p in
     let b = c.loop-i-test.true in (
-      round-on c.loop-i.invariant.0 f.result b f.ensures cut.result.now cut.ensures _ _ _ _ put.ensures.answer put.ensures.memory put.auto.1.1.1.1.1.0 c.after-i.ensures,
+      round-on c.loop-i.invariant.0 f.result b f.ensures cut.result.now cut.ensures _ _ _ _ put.ensures.answer put.ensures.memory put.auto.scratch c.after-i.ensures,
       thin-on c.loop-i.invariant.1 f.result b f.ensures cut.result.now cut.ensures _ put.ensures.answer c.note_next-k.ensures c.after-i.ensures,
     )
 
