@@ -15,7 +15,7 @@ const PLACES: usize = LOW + OWNERS;
 
 // By the plain engine.
 fn plain_drops(mode: usize, a: &[u8], out: &mut [u8]) -> usize {
-    let mut space = io::large_buffer();
+    let mut space = input::host::large_buffer();
     let scratch: &mut [u8] = &mut space;
     if scratch.len() < a.len() {
         return nothing();
@@ -46,7 +46,7 @@ fn plain_drops(mode: usize, a: &[u8], out: &mut [u8]) -> usize {
 
 // By the sweep.
 fn sweep_drops(mode: usize, a: &[u8], out: &mut [u8]) -> usize {
-    let mut space = io::large_buffer();
+    let mut space = input::host::large_buffer();
     let scratch: &mut [u8] = &mut space;
     if scratch.len() < a.len() {
         return nothing();

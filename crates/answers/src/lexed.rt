@@ -28,7 +28,7 @@ fn say_words(t: &[u8], out: &mut [u8]) -> usize {
 
 // The words of a line, each followed by LF.
 fn ident_words(a: &[u8], out: &mut [u8]) -> usize {
-    let mut cleaned = io::large_buffer();
+    let mut cleaned = input::host::large_buffer();
     let n = strip_lexical(a, &mut cleaned);
     if cleaned.len() < n {
         return nothing();

@@ -11,7 +11,7 @@ const PLACES: usize = LOW + OWNERS;
 
 // The first pass.
 fn prune_dead_temps(a: &[u8], out: &mut [u8]) -> usize {
-    let mut space = io::large_buffer();
+    let mut space = input::host::large_buffer();
     let scratch: &mut [u8] = &mut space;
     if scratch.len() < a.len() {
         return nothing();

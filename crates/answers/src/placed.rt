@@ -132,7 +132,7 @@ fn one_more(a: &[u8], more: &mut [u8]) -> usize {
 
 // Whether a statement may begin at the line `number`, or after all lines.
 fn starts_statement(a: &[u8], number: usize, out: &mut [u8]) -> usize {
-    let mut more = io::large_buffer();
+    let mut more = input::host::large_buffer();
     let mut blocks = [0usize; 4096];
     let mut starts = [0u8; 4096];
     let mut up = [0u32; 4096];

@@ -48,5 +48,5 @@ returns c =
     let a = c.args in
     let d = c.decide-n in
     let e = d.ensures in
-    let z = e.1.1.0 in
-    record { answer = sweep-filled (reading_of a.mode.0) (lines_of a.text.now) e.0 c.keep_goes.ensures; memory = e.1.0; tables = (z.0, (z.1.0, (z.1.1.0, (z.1.1.1, c.wipe.ensures ∙ ap (λ (n : ℕ). replicate n 0) d.auto.1.1.1.1.1.1.1.1.1.1.1.1.0)))) }
+    let z = e.tables in
+    record { answer = sweep-filled (reading_of a.mode.0) (lines_of a.text.now) e.answer c.keep_goes.ensures; memory = e.memory; tables = (z.0, (z.1.0, (z.1.1.0, (z.1.1.1, c.wipe.ensures ∙ ap (λ (n : ℕ). replicate n 0) d.auto.ends)))) }
