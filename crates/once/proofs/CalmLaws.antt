@@ -7,9 +7,9 @@ use native.Mathlib.Omega.{arith}
 use lib.Dec.{eqb}
 use lib.ListN.{length, take, drop, length-drop, drop_of_length-le}
 use lib.Seq.{drop-drop}
-use Rattle.lines.specs.Lf.{all, part, up_to, cut_on, lines_of, holds}
+use Rattle.lines.specs.Lf.{all, part, up_to, cut_on, lines_of}
 use Rattle.lines.specs.Inner.Lf.{lacks}
-use Rattle.lines.proofs.Tests.{no, and_left, and_right, and_both}
+use Rattle.lines.proofs.Tests.{and_left, and_right, and_both}
 use Rattle.lines.proofs.LfLaws.{rest_of, rest-lacks, lacks-cons, lacks-with}
 use Rattle.place.specs.Region.{is_header}
 use Rattle.once.specs.Inner.Tables.{any_call}

@@ -11,7 +11,6 @@ use borrow.Author.Tests.{eq-eqb, ne_eqb}
 use Rattle.lines.proofs.Tests.{and-false, and-true}
 use Rattle.parse.specs.Parse.{parse_of}
 use Rattle.parse.specs.declared.Line.{Line}
-use Rattle.parse.specs.declared.Line.TheVariants as line
 use Rattle.words.specs.Runs.{reads_of}
 use Rattle.words.specs.Hits.{reg_hit}
 use Rattle.reading.specs.Reading.{Reading, pure_in}

@@ -1,28 +1,27 @@
 -- Laws of filling the table of marks. Assumes nothing.
-use Prim.Native.Nat.{ℕ, zero, suc, ◌+◌, ◌-◌, ◌≤◌, ◌<◌, min}
+use Prim.Native.Nat.{ℕ, suc, ◌+◌, ◌≤◌, ◌<◌, min}
 use mathlib.Core.Path.{◌≡◌, refl, sym, ap, ◌∙◌}
-use mathlib.Core.Bool.{Bool, true, false, cond, not}
+use mathlib.Core.Bool.{Bool, true, false, cond}
 use mathlib.Core.List.{List, [], ◌∷◌}
 use native.Mathlib.Omega.{arith}
 use native.Mathlib.Numerals.{add-one}
-use lib.Dec.{eqb}
-use lib.ListN.{length, take, drop, get_or, set, drop_of_length-le}
+use lib.ListN.{length, drop, get_or, set, drop_of_length-le}
 use lib.Seq.{drop-cons, drop-drop}
 use Rattle.lines.specs.Lf.{part, up_to, lines_of}
-use Rattle.lines.proofs.LfLaws.{lines-at, lines_end, find-le, rest_of}
-use Rattle.lines.proofs.OutLaws.{Writing, writing_start, writing-as, writing-room, writing-length}
+use Rattle.lines.proofs.LfLaws.{lines-at, lines_end, rest_of}
+use Rattle.lines.proofs.OutLaws.{Writing, writing_start, writing-as, writing-room}
 use Rattle.place.specs.Blocks.{top}
 use Rattle.place.specs.Inner.Fill.{Filled, flags_of}
 use Rattle.place.specs.Region.{is_header, region, region_at}
 use Rattle.place.specs.Paths.{block_paths, tops}
 use Rattle.place.specs.Loops.{inside_loop}
-use Rattle.place.proofs.Fills.{entry-on, entry-end, filled-as}
+use Rattle.place.proofs.Fills.{entry-on, entry-end}
 use Rattle.place.proofs.Paths.{length-tops}
 use Rattle.place.proofs.Nests.{length-loops}
 use Rattle.reading.specs.Reading.{Reading}
 use Rattle.decls.proofs.Writes.{at_same, at_new}
-use Rattle.once.specs.Once.{Spot, spots_of, spots, lines_in, dropped, forwards, next_run, once_go, once_acts}
-use Rattle.once.specs.Inner.Tables.{Zeroed, line_drops, line_forwards, mark_of, marks_go, once_marks, acts_by, is_set, first_drops, first_takes, mark_by, first_mark, marks_in, marks_of, area_at}
+use Rattle.once.specs.Once.{Spot, spots_of, spots, dropped, forwards, next_run, once_acts}
+use Rattle.once.specs.Inner.Tables.{line_drops, line_forwards, mark_of, marks_go, once_marks, acts_by, is_set, first_drops, first_takes, mark_by, first_mark, marks_in, marks_of, area_at}
 use Rattle.once.specs.Inner.Noted.{RowAt}
 use Rattle.once.proofs.Searches.{lines-in}
 use Rattle.once.proofs.Marks.{drops-is, forwards-is, acts-marks}

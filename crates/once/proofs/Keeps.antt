@@ -1,12 +1,12 @@
 -- No LF comes into a line. Assumes nothing.
 use Prim.Native.Nat.{ℕ, ◌-◌}
-use mathlib.Core.Path.{◌≡◌, refl, ap, ◌∙◌}
+use mathlib.Core.Path.{◌≡◌, refl}
 use mathlib.Core.Bool.{Bool, true, false, cond, not, ◌&&◌}
 use mathlib.Core.List.{List, [], ◌∷◌}
 use lib.ListN.{drop}
 use Rattle.lines.specs.Lf.{all}
 use Rattle.lines.specs.Inner.Lf.{lacks, no_lf}
-use Rattle.lines.specs.Acts.{Act, keep, become, into, gone, apply}
+use Rattle.lines.specs.Acts.{keep, become, into, gone, apply}
 use Rattle.lines.proofs.Tests.{and_left, and_right, and_both}
 use Rattle.lines.proofs.LfLaws.{lacks-take, lacks-drop}
 use Rattle.lines.proofs.ActLaws.{act_no_lf, apply-no_lf}

@@ -1,12 +1,11 @@
 -- The tests on one line are those of the definition, and the acts by marks are its acts. Assumes nothing.
-use Prim.Native.Nat.{ℕ, suc, ◌+◌, ◌-◌, ◌≤◌, ◌<◌}
-use mathlib.Core.Path.{◌≡◌, refl, sym, ap, ◌∙◌}
-use mathlib.Core.Bool.{Bool, true, false, cond, not, ◌&&◌, ◌||◌}
-use mathlib.Core.List.{List, [], ◌∷◌, ◌++◌}
-use native.Mathlib.Omega.{arith}
-use lib.Dec.{eqb, ltb}
+use Prim.Native.Nat.{ℕ, ◌≤◌}
+use mathlib.Core.Path.{◌≡◌, refl, sym, ap}
+use mathlib.Core.Bool.{Bool, true, false, cond, not, ◌&&◌}
+use mathlib.Core.List.{List, [], ◌∷◌}
+use lib.Dec.{eqb}
 use lib.ListN.{length}
-use Rattle.lines.specs.Acts.{Act, keep, become, into, gone}
+use Rattle.lines.specs.Acts.{Act}
 use Rattle.parse.specs.Parse.{parse_of, text_of}
 use Rattle.parse.specs.declared.Line.{Line}
 use Rattle.parse.specs.declared.Line.TheVariants as line
@@ -15,11 +14,10 @@ use Rattle.words.specs.Runs.{reads_of}
 use Rattle.words.specs.Hits.{reg_hit, replace_reg, replace_by}
 use Rattle.words.specs.declared.Hit.{Hit}
 use Rattle.words.specs.declared.Hit.TheVariants as hit
-use Rattle.reading.specs.Reading.{Reading, pure_in}
-use Rattle.reading.specs.Uses.{line_reads, line_stores}
-use Rattle.once.specs.Scratch.{scratch_at}
-use Rattle.once.specs.Once.{Spot, spots_of, lines_in, Next, next_use, dead_by, dropped_by, dropped, read_count, later_read, some, forward_to, forward_by, forwards, taken_by, once_act, once_go, next_run}
-use Rattle.once.specs.Inner.Tables.{next_in, store_drops, drops_by, line_drops, has_hit, store_forwards, forwards_by, line_forwards, mark_of, marks_go, sends, act_by, acts_by}
+use Rattle.reading.specs.Reading.{Reading}
+use Rattle.reading.specs.Uses.{line_reads}
+use Rattle.once.specs.Once.{Spot, spots_of, lines_in, next_use, dropped_by, dropped, some, forward_by, forwards, once_act, once_go, next_run}
+use Rattle.once.specs.Inner.Tables.{store_drops, drops_by, line_drops, has_hit, store_forwards, forwards_by, line_forwards, mark_of, marks_go, acts_by}
 use Rattle.once.proofs.Searches.{next-in, lines-in}
 
 -- ---- a line that goes

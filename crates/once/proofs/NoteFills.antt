@@ -6,7 +6,7 @@ use mathlib.Core.List.{List, [], ◌∷◌, ◌++◌}
 use native.Mathlib.Omega.{arith}
 use borrow.Author.Tests.{lt-ltb, le-ltb, ltb-true, ltb-false, eq-eqb, ne_eqb, eqb-true, eqb-false}
 use lib.Dec.{eqb, ltb}
-use lib.ListN.{length, drop, get_or, set, replicate, length-set, length-replicate, get_or-eq_default}
+use lib.ListN.{length, drop, get_or, set, replicate, length-set, get_or-eq_default}
 use lib.Seq.{drop-drop, get_or-set_same, get_or-set_other}
 use Rattle.lines.specs.Lf.{part, ends_in, lines_of}
 use Rattle.lines.specs.Inner.Lf.{line_start}

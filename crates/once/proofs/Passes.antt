@@ -1,5 +1,5 @@
 -- The pass: what its steps leave, that no LF comes into a line, and that there are never more lines. Assumes nothing.
-use Prim.Native.Nat.{ℕ, ◌+◌, ◌-◌, ◌≤◌}
+use Prim.Native.Nat.{ℕ, ◌-◌, ◌≤◌}
 use mathlib.Core.Path.{◌≡◌, refl, sym, ap, ◌∙◌}
 use mathlib.Core.Bool.{true, false}
 use mathlib.Core.List.{List, []}
@@ -11,7 +11,7 @@ use Rattle.lines.specs.Acts.{Act, apply}
 use Rattle.lines.specs.Inner.Out.{Wrote}
 use Rattle.lines.proofs.LfLaws.{lines-unlines, lines-no_lf}
 use Rattle.lines.proofs.ActLaws.{apply-length}
-use Rattle.lines.proofs.OutLaws.{wrote_as, wrote-part}
+use Rattle.lines.proofs.OutLaws.{wrote-part}
 use Rattle.place.specs.Inner.Fill.{Filled, flags_of}
 use Rattle.place.specs.Paths.{block_paths, tops}
 use Rattle.place.specs.Loops.{inside_loop}

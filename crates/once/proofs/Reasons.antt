@@ -1,5 +1,5 @@
 -- Nothing is lost unsaid: a line stays as it is, goes as a scratch load or as a dead store, or goes into the next, which holds its value. Assumes nothing.
-use Prim.Native.Nat.{ℕ, ◌-◌}
+use Prim.Native.Nat.{ℕ}
 use mathlib.Core.Path.{◌≡◌, refl, sym, ap, ◌∙◌}
 use mathlib.Core.Bool.{Bool, true, false, cond, not, ◌&&◌, ◌||◌}
 use mathlib.Core.List.{List, [], ◌∷◌, ◌++◌, append_assoc}
@@ -20,7 +20,7 @@ use Rattle.words.specs.declared.Hit.TheVariants as hit
 use Rattle.reading.specs.Reading.{Reading, pure_in}
 use Rattle.reading.specs.Uses.{line_reads, line_stores}
 use Rattle.once.specs.Scratch.{scratch_at}
-use Rattle.once.specs.Once.{Spot, spots, lines_in, next_use, dead_by, dropped_by, dropped, read_count, later_read, some, first_of, forward_to, forward_by, forwards, taken_by, once_act, once_go, once_acts, next_run}
+use Rattle.once.specs.Once.{Spot, spots, lines_in, next_use, dead_by, dropped_by, dropped, read_count, later_read, some, first_of, forward_by, forwards, taken_by, once_act, once_go, once_acts, next_run}
 use Rattle.once.proofs.Marks.{forwards-stays}
 
 -- ---- a line that goes

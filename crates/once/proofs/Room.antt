@@ -1,11 +1,10 @@
 -- The pass raises no weight: what a line takes in weighs no more than the line that goes. Assumes nothing.
-use Prim.Native.Nat.{ℕ, zero, suc, ◌+◌, ◌-◌, ◌≤◌, ◌<◌}
+use Prim.Native.Nat.{ℕ, ◌+◌, ◌-◌, ◌≤◌}
 use mathlib.Core.Path.{◌≡◌, refl, sym, ap, ◌∙◌}
 use mathlib.Core.Bool.{Bool, true, false, cond, not, ◌&&◌, ◌||◌}
 use mathlib.Core.List.{List, [], ◌∷◌, ◌++◌, append_assoc}
 use native.Mathlib.Omega.{arith}
-use lib.ListN.{length, take, drop, take-append-drop}
-use lib.Seq.{drop-drop}
+use lib.ListN.{take, drop}
 use Rattle.lines.specs.Lf.{part, unlines}
 use Rattle.lines.specs.Acts.{Act, keep, become, into, gone, apply}
 use Rattle.lines.proofs.Tests.{no, and_left}
@@ -24,7 +23,7 @@ use Rattle.words.specs.Hits.{reg_hit, glue_left, glue_right, glued, replaced_at,
 use Rattle.words.specs.declared.Hit.{Hit}
 use Rattle.words.specs.declared.Hit.TheVariants as hit
 use Rattle.words.proofs.Places.{hit-stands, around}
-use Rattle.weight.specs.Inner.Weight.{spaced, weight}
+use Rattle.weight.specs.Inner.Weight.{weight}
 use Rattle.weight.proofs.Weigh.{weight-take, weight-rest}
 use Rattle.weight.proofs.Moves.{bracketed, absorb-le, glued-is, not-spaced, credit, due, Fits, ended, kept, became, sent, dropped, fits-weight}
 use Rattle.decls.proofs.Decl.{prune-weight}

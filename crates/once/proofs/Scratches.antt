@@ -13,13 +13,11 @@ use Rattle.lines.proofs.Tests.{no, and_left, and_right, and_both, and-true, and-
 use Rattle.lines.proofs.LfLaws.{rest_of, lines-at, lines_end}
 use Rattle.lines.proofs.Compare.{hold-end}
 use Rattle.names.specs.Names.{reg_of, is_ident, is_digit, all_names}
-use Rattle.names.specs.declared.RegName.{RegName}
 use Rattle.names.specs.declared.RegName.TheVariants as name
 use Rattle.text.specs.Class.{is_name}
 use Rattle.parse.specs.Parse.{parse_of, text_of}
 use Rattle.parse.specs.declared.Line.{Line}
 use Rattle.place.specs.Region.{is_header}
-use Rattle.words.specs.Hits.{hits}
 use Rattle.words.specs.Inner.Runs.{words_of}
 use Rattle.words.proofs.HitLaws.{hits-words}
 use Rattle.once.specs.Scratch.{object_of, is_member, changes_by, called_below, scratch_at, live_below}

@@ -2,19 +2,19 @@
 use Prim.Native.Nat.{ℕ, suc, ◌+◌, ◌≤◌, ◌<◌, min}
 use mathlib.Core.Path.{◌≡◌, refl, sym, ap, ◌∙◌}
 use mathlib.Core.Bool.{Bool, true, false, cond, not, ◌&&◌, ◌||◌}
-use mathlib.Core.List.{List, [], ◌∷◌, ◌++◌}
+use mathlib.Core.List.{List, [], ◌∷◌}
 use native.Mathlib.Omega.{arith}
 use native.Mathlib.Numerals.{add-one}
-use borrow.Author.Tests.{lt-ltb, le-ltb, eq-eqb, ne_eqb}
+use borrow.Author.Tests.{lt-ltb, le-ltb, ne_eqb}
 use lib.Dec.{eqb, ltb}
-use lib.ListN.{length, take, drop, get_or, drop_of_length-le}
+use lib.ListN.{length, drop, get_or, drop_of_length-le}
 use lib.Seq.{drop-cons}
 use Rattle.lines.specs.Lf.{part, up_to, lines_of}
 use Rattle.lines.proofs.LfLaws.{lines-at, lines_end}
 use Rattle.place.specs.Region.{is_header}
 use Rattle.reading.specs.Uses.{line_reads, line_stores}
 use Rattle.once.specs.Scratch.{live_below}
-use Rattle.once.specs.Once.{Next, none, read, write, Spot, spots_of, lines_in, next_use, dead_by, read_count, later_read}
+use Rattle.once.specs.Once.{none, read, write, spots_of, lines_in, next_use, read_count, later_read}
 use Rattle.once.specs.Inner.Tables.{read_below, next_in}
 
 -- ---- a read before the next store

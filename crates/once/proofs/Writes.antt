@@ -1,5 +1,5 @@
 -- Laws of what a line is written as. Assumes nothing.
-use Prim.Native.Nat.{ℕ, zero, suc, ◌+◌, ◌-◌, ◌≤◌, ◌<◌, min}
+use Prim.Native.Nat.{ℕ, zero, suc, ◌+◌, ◌≤◌, ◌<◌, min}
 use mathlib.Core.Path.{◌≡◌, refl, sym, ap, ◌∙◌}
 use mathlib.Core.Bool.{Bool, true, false, not, ◌&&◌}
 use mathlib.Core.List.{List, [], ◌∷◌, ◌++◌, append_assoc}
@@ -23,7 +23,6 @@ use Rattle.parse.specs.declared.Line.TheVariants as line
 use Rattle.parse.specs.declared.Store.{Store}
 use Rattle.text.specs.declared.Span.{Span}
 use Rattle.words.specs.Hits.{reg_hit, replace_reg, replaced_at}
-use Rattle.words.specs.declared.Hit.{Hit}
 use Rattle.words.specs.declared.Hit.TheVariants as hit
 use Rattle.once.specs.Once.{first_of, taken_by}
 use Rattle.once.specs.Inner.Tables.{sends, act_by, acts_by}

@@ -1,5 +1,5 @@
 -- `optimize_once`: dead stores and scratch loads go, a value that is read once on the next line goes there, then `prune_decls`. Assumes nothing.
-use Rattle.std.specs.Prelude.{ℕ, ◌+◌, Bool, true, false, cond, not, ◌&&◌, ◌||◌, List, [], ◌∷◌, ◌++◌, eqb, ltb}
+use Rattle.std.specs.Prelude.{ℕ, ◌+◌, Bool, true, false, cond, not, ◌&&◌, ◌||◌, List, [], ◌∷◌, eqb, ltb}
 use Rattle.lines.specs.Acts.{Act, keep, become, into, gone, apply}
 use Rattle.parse.specs.Parse.{parse_of, text_of}
 use Rattle.parse.specs.declared.Line.{Line}

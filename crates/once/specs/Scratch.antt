@@ -1,5 +1,5 @@
 -- `call_scratch_lines`: a load of a member whose value nothing reads, where a call of the same member follows. Assumes nothing.
-use Rattle.std.specs.Prelude.{ℕ, suc, Bool, true, false, cond, not, ◌&&◌, ◌||◌, List, [], ◌∷◌, ◌++◌, length, take, drop, ltb}
+use Rattle.std.specs.Prelude.{ℕ, suc, Bool, false, cond, not, ◌&&◌, ◌||◌, List, [], ◌∷◌, ◌++◌, length, take, drop, ltb}
 use Prim.Native.Char.{code}
 use Rattle.lines.specs.Ascii.{ascii}
 use Rattle.lines.specs.Lf.{up_to, holds}

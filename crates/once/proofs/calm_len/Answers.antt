@@ -1,6 +1,5 @@
 use mathlib.Core.Path.{sym, ◌∙◌}
 use native.Mathlib.Omega.{arith}
-use Rattle.lines.specs.Inner.Lf.{lacks}
 use Rattle.once.proofs.CalmLaws.{calm-start, calm-block, calm-found}
 use Rattle.once.proofs.calm_len.Goals as goal
 

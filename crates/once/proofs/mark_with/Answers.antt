@@ -1,16 +1,13 @@
-use Prim.Native.Nat.{◌+◌, ◌-◌, min}
-use mathlib.Core.Path.{◌≡◌, refl, ap, ◌∙◌}
+use Prim.Native.Nat.{◌+◌, min}
+use mathlib.Core.Path.{refl, ap, ◌∙◌}
 use native.Mathlib.Omega.{arith}
-use lib.ListN.{length, drop}
-use Rattle.lines.specs.Lf.{lines_of}
+use lib.ListN.{length}
 use Rattle.lines.proofs.LfLaws.{find-le}
 use Rattle.lines.proofs.OutLaws.{writing-length}
 use Rattle.reading.specs.Reading.{reading_of}
-use Rattle.once.specs.Inner.Tables.{Zeroed}
 use Rattle.once.proofs.Zeros.{zeroed-as}
-use Rattle.once.proofs.AreaLaws.{AreaInv}
 use Rattle.once.proofs.NotedFills.{rows_start, rows_on, area-begin, area-after, one_at}
-use Rattle.once.proofs.Fills.{lines_at, MarksInv, fill_start, fill-place, fill_on, fill_end}
+use Rattle.once.proofs.Fills.{fill_start, fill-place, fill_on, fill_end}
 use Rattle.once.proofs.mark_with.Goals as goal
 
 pub loop-i-init : goal.loop-i-init

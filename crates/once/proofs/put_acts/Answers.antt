@@ -1,6 +1,6 @@
 use mathlib.Core.Bool.{not}
 use lib.Dec.{eqb}
-use Prim.Native.Nat.{◌+◌, ◌-◌, min}
+use Prim.Native.Nat.{◌+◌, min}
 use native.Mathlib.Omega.{arith}
 use mathlib.Core.Path.{refl, ◌∙◌}
 use borrow.Author.Tests.{eqb-true, not-true}

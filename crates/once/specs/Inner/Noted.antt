@@ -11,7 +11,7 @@ use Rattle.parse.specs.Parse.{parse_of}
 use Rattle.parse.specs.declared.Store.{Store}
 use Rattle.parse.specs.declared.Line.{Line}
 use Rattle.parse.specs.declared.Line.TheVariants as line
-use Rattle.place.specs.Region.{is_header, region, region_at}
+use Rattle.place.specs.Region.{region, region_at}
 use Rattle.reading.specs.Uses.{line_reads, line_stores}
 use Rattle.slots.specs.Inner.Slots.{slot_of, entry_of, with_entry}
 use Rattle.decls.specs.Inner.Firsts.{first_by, read_below}

@@ -15,7 +15,7 @@ use Rattle.place.specs.Region.{is_header, region, region_at}
 use Rattle.place.specs.Blocks.{top}
 use Rattle.reading.specs.Uses.{line_reads, line_stores}
 use Rattle.once.specs.Scratch.{scratch_at}
-use Rattle.once.specs.Once.{Next, none, read, write, dead_by, read_count, later_read, Spot, spots_of, spots, dropped, forwards, taken_by, next_run}
+use Rattle.once.specs.Once.{Next, none, read, write, dead_by, read_count, later_read, Spot, spots, dropped, forwards, taken_by, next_run}
 
 -- a read of register v before it is stored again: in all lines below, or down to the end of the region
 unfoldable pub read_below : Bool → ℕ → List (List ℕ) → Bool

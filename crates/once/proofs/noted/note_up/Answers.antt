@@ -1,10 +1,10 @@
 use Prim.Native.Nat.{ℕ, ◌+◌, ◌-◌}
-use mathlib.Core.Path.{◌≡◌, refl, sym, ap, ◌∙◌}
+use mathlib.Core.Path.{refl, sym, ap, ◌∙◌}
 use mathlib.Core.List.{List}
 use native.Mathlib.Omega.{arith}
 use lib.ListN.{length, length-set}
 use Rattle.lines.specs.Lf.{part, lines_of}
-use Rattle.once.proofs.NoteFills.{NoteInv, once-none, notes-none, note-start, note-lf, note-row, note-count, note-on, ones-of, note-lengths}
+use Rattle.once.proofs.NoteFills.{once-none, notes-none, note-start, note-lf, note-row, note-count, note-on, ones-of, note-lengths}
 use Rattle.once.proofs.noted.note_up.Goals as goal
 
 pub returns-then-not-ends_lf : goal.returns-then-not-ends_lf
