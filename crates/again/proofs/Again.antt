@@ -1,11 +1,11 @@
 -- Lines joined to a text and split again: what comes back, and what prune_decls makes of its own text. Assumes nothing.
-use Prim.Native.Nat.{ℕ, ◌+◌, ◌-◌, ◌≤◌, ◌<◌}
+use Prim.Native.Nat.{ℕ}
 use mathlib.Core.Path.{◌≡◌, refl, sym, ap, ◌∙◌}
 use mathlib.Core.Bool.{Bool, true, false, cond, not, ◌&&◌}
-use mathlib.Core.List.{List, [], ◌∷◌, ◌++◌, append-nil}
+use mathlib.Core.List.{List, [], ◌∷◌, ◌++◌}
 use native.Mathlib.Omega.{arith}
 use lib.Dec.{eqb}
-use lib.ListN.{length, get_or, length-append}
+use lib.ListN.{length-append}
 use Rattle.lines.specs.Lf.{lines_of, ends_in, prefixed}
 use Rattle.lines.specs.Inner.Lf.{lacks, no_lf}
 use Rattle.lines.specs.Steps.{drop_cr, split_lines, join_lines, settle, joined}

@@ -4,7 +4,7 @@ use Prim.Native.String.{String}
 use mathlib.Core.Path.{◌≡◌, refl}
 use mathlib.Core.Bool.{Bool, true, false}
 use mathlib.Core.List.{List, [], ◌∷◌, map}
-use Rattle.lines.specs.Lf.{up_to, cut_on, lines_of, parts_of, prefixed, ends_in}
+use Rattle.lines.specs.Lf.{up_to, cut_on, lines_of, parts_of, prefixed}
 use Rattle.lines.specs.Acts.{act, apply}
 use Rattle.lines.specs.Steps.{drop_cr, split_lines, join_lines, settle, joined}
 use Rattle.text.specs.White.{is_white}

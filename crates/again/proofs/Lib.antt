@@ -1,3 +1,4 @@
+pub mod Step
 pub mod Twice
 pub mod Reprint
 pub mod Again

@@ -10,7 +10,7 @@ use lib.ListN.{length, get_or, take, drop, replicate, length-append, length-repl
 use lib.Seq.{take-append-le, get_or-append-add}
 use Rattle.lines.specs.Lf.{prefixed}
 use Rattle.lines.specs.Inner.Lf.{lacks}
-use Rattle.lines.proofs.Tests.{no, or-false}
+use Rattle.lines.proofs.Tests.{or-false}
 use Rattle.lines.proofs.LfLaws.{lacks-cons}
 use Rattle.text.specs.White.{is_white}
 use Rattle.text.specs.Utf8Form.{seq_len}

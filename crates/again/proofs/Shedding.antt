@@ -7,9 +7,8 @@ use native.Mathlib.Omega.{arith}
 use lib.ListN.{length, take, drop}
 use Rattle.lines.specs.Lf.{ends_in, parts_of, prefixed}
 use Rattle.lines.specs.Acts.{Act, keep, become, into, gone, act, apply}
-use Rattle.lines.specs.Steps.{split_lines, joined}
+use Rattle.lines.specs.Steps.{split_lines}
 use Rattle.lines.proofs.ActLaws.{apply-length}
-use Rattle.lines.proofs.Tests.{no}
 use Rattle.text.specs.Trim.{lead, from_of, end_white, to_of, trim_of}
 use Rattle.names.specs.Names.{reg_of, reg_text}
 use Rattle.names.specs.declared.RegName.{RegName}
