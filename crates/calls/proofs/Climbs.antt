@@ -6,36 +6,35 @@ use mathlib.Core.List.{List, [], ◌∷◌, ◌++◌, append_assoc, append-nil}
 use native.Mathlib.Omega.{arith}
 use borrow.Author.Tests.{ltb-true, ltb-false}
 use lib.Dec.{eqb, ltb}
-use lib.ListN.{length, take, drop, get_or, set, length-set, length-append, length-drop}
+use lib.ListN.{length, take, drop, get_or, set, length-set, length-drop}
 use lib.Seq.{take-add, get_or-take, get_or-drop, get_or-append-add, take-set-le, drop-set-lt, length-take-le}
 use Rattle.lines.specs.Lf.{part, lines_of, unlines}
-use Rattle.lines.specs.Inner.Lf.{line_start, lacks, no_lf}
-use Rattle.lines.specs.Acts.{Act, keep, become, into, gone, act, apply}
+use Rattle.lines.specs.Inner.Lf.{line_start, no_lf}
+use Rattle.lines.specs.Acts.{Act, into, act, apply}
 use Rattle.lines.specs.Inner.Out.{Wrote}
 use Rattle.lines.proofs.LfLaws.{part_none, rest_of, lines-unlines}
 use Rattle.lines.proofs.OutLaws.{wrote-part, wrote-length}
 use Rattle.lines.proofs.Tests.{no, and_left, and_right, and_both}
 use Rattle.parse.specs.declared.Store.{Store}
-use Rattle.parse.specs.declared.Line.{Line}
 use Rattle.parse.specs.declared.Line.TheVariants as line
 use Rattle.parse.specs.Parse.{parse_of}
 use Rattle.place.specs.Region.{is_header}
 use Rattle.reading.specs.Reading.{plain}
 use Rattle.calls.specs.declared.Made.{Made}
 use Rattle.calls.specs.declared.Made.TheVariants as made
-use Rattle.calls.specs.Leaves.{Leaves, Parsed, store, other}
+use Rattle.calls.specs.Leaves.{Parsed, store, other}
 use Rattle.calls.specs.LeavesOf.{parsed_by, parsed_of}
-use Rattle.calls.specs.Calls.{Item, Row, Walked, Step, end, skip, absorb, row_lines, climb, made, has, acts_up, read_later, storeStep, stepAt, walk}
+use Rattle.calls.specs.Calls.{Row, Walked, Step, end, skip, absorb, row_lines, climb, made, has, acts_up, read_later, storeStep, stepAt, walk}
 use Rattle.calls.specs.Inner.Steps.{absorb_step, PutAs, ends, puts}
 use Rattle.calls.specs.Inner.Later.{Noted, Spans}
 use Rattle.calls.specs.Inner.Tables.{owner_of, owners_of, tabled, rows_at, walk_at, line_at, Keeps, Stands, Placed, Foot, Peaked}
-use Rattle.calls.proofs.Edges.{standing, given, given-length, apply-standing, walk-given, Passed, none_yet, onto, owner_back, by-table, stands, WalkInv, edge-start, edge-skip, edge-absorb, edge-end, edge-top, edge-spent}
+use Rattle.calls.proofs.Edges.{standing, given, given-length, apply-standing, walk-given, Passed, onto, owner_back, by-table, stands, WalkInv, edge-start, edge-skip, edge-absorb, edge-end, edge-top, edge-spent}
 use Rattle.calls.proofs.Owners.{owned}
 use Rattle.calls.proofs.Room.{valued, put_is, value-length, put-length}
 use Rattle.calls.proofs.Stacks.{LastLine, last_line, part_join, part-cons, part-set, snoc-front, snoc-last, owners-snoc, owners-rows, owner-back, lines-many}
 use Rattle.calls.proofs.StepLaws.{front-is}
-use Rattle.calls.proofs.Told.{Absorbs, step-absorbs, GoodAct, Upright, upright, went, RowTold, Told, item_at, walk_is, given-at, owned_at, many-at, told_at}
-use Rattle.calls.proofs.WalkLaws.{owners_in, row-stands, store-absorb, row-dropped, passed_length}
+use Rattle.calls.proofs.Told.{step-absorbs, GoodAct, Upright, upright, went, RowTold, Told, walk_is, given-at, owned_at, many-at, told_at}
+use Rattle.calls.proofs.WalkLaws.{owners_in, row-stands, store-absorb, passed_length}
 
 -- ---- what a step in a lent buffer was, by what it gave back
 

@@ -9,7 +9,7 @@ use lib.ListN.{length, get_or, drop}
 use Rattle.lines.specs.Lf.{part, up_to, lines_of}
 use Rattle.place.specs.Region.{is_header}
 use Rattle.records.specs.declared.LineRec.{LineRec}
-use Rattle.records.specs.Inner.Records.{no_rec, rec_at, records_of, Above, last_record, window_at, Told}
+use Rattle.records.specs.Inner.Records.{no_rec, records_of, Above, last_record, window_at, Told}
 use Rattle.records.proofs.Down.{Down, down-start, down-some, down-none, down_lt, down-here, down-on}
 use Rattle.records.proofs.Shown.{Shows, Has, told-long, shows-start, shows-asks, shows-filled}
 use Rattle.calls.specs.Inner.Tables.{Ready, TurnedLine, Rebuilt}

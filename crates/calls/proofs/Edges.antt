@@ -1,17 +1,17 @@
 -- What code needs that keeps the standing lines as a stack and one number for each line: its owner's distance, or 0. Assumes nothing.
-use Prim.Native.Nat.{ℕ, zero, suc, ◌+◌, ◌-◌, ◌≤◌, ◌<◌}
+use Prim.Native.Nat.{ℕ, zero, suc, ◌-◌, ◌≤◌, ◌<◌}
 use mathlib.Core.Path.{subst, ◌≡◌, refl, sym, ap, ◌∙◌}
-use mathlib.Core.Bool.{Bool, true, false, cond, not, ◌&&◌, ◌||◌}
+use mathlib.Core.Bool.{Bool, true, false, cond, ◌||◌}
 use mathlib.Core.List.{List, [], ◌∷◌, ◌++◌, append_assoc, append-nil}
 use native.Mathlib.Omega.{arith}
 use borrow.Author.Tests.{eq-eqb, ne_eqb}
 use lib.ListN.{length, length-append}
 use lib.Dec.{eqb}
-use Rattle.lines.specs.Acts.{Act, keep, become, into, gone, act, apply}
+use Rattle.lines.specs.Acts.{Act, into, act, apply}
 use Rattle.lines.proofs.ActLaws.{apply-append}
 use Rattle.lines.proofs.Tests.{no}
 use Rattle.calls.specs.Leaves.{Leaves}
-use Rattle.calls.specs.Calls.{Item, Row, Walked, Step, end, skip, absorb, stop, pass, tries, settle_row, row_lines, lines_on, has, climb, made, on_step, items_of, acts_up, read_later, stepAt, walk, turn, rows_of, rebuild_calls_acts, rebuild_calls}
+use Rattle.calls.specs.Calls.{Item, Row, Walked, Step, end, skip, absorb, stop, pass, tries, row_lines, lines_on, has, climb, made, on_step, items_of, acts_up, read_later, stepAt, walk, turn, rows_of, rebuild_calls_acts, rebuild_calls}
 use Rattle.calls.specs.Inner.Tables.{owner_of}
 use Rattle.calls.proofs.Cut.{walk_step, acts-more, acts-length}
 

@@ -12,14 +12,14 @@ use Rattle.lines.proofs.Tests.{no, and_left, and_right}
 use Rattle.text.specs.White.{is_white}
 use Rattle.text.specs.Utf8Form.{seq_len}
 use Rattle.text.specs.Trim.{point, white_char, white_head, lead, from_of, to_of, trim_of}
-use Rattle.names.specs.Names.{reg_word, reg_of}
+use Rattle.names.specs.Names.{reg_of}
 use Rattle.names.specs.declared.RegName.{RegName}
 use Rattle.names.specs.declared.RegName.TheVariants as name
 use Rattle.parse.specs.declared.Line.{Line}
 use Rattle.parse.specs.declared.Line.TheVariants as line
 use Rattle.parse.specs.Parse.{is_decl, store_by, split_store, store_in, parse_of}
 use Rattle.place.specs.Region.{let_phi, is_header}
-use Rattle.calls.specs.Leaves.{Parsed, store, other}
+use Rattle.calls.specs.Leaves.{other}
 use Rattle.calls.specs.LeavesOf.{parsed_by, parsed_of}
 
 -- a header begins with `f`, `v`, `l` or `c`: what holds of these four holds of its first byte

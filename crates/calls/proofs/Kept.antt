@@ -1,10 +1,9 @@
 -- What rebuild_calls keeps: there are no more lines than before, and a value that goes into a line stands in it. Assumes nothing.
 use Prim.Native.Nat.{ℕ, ◌≤◌}
 use mathlib.Core.Path.{◌≡◌, refl, sym, ap, ◌∙◌}
-use mathlib.Core.Bool.{Bool, true, false, cond, ◌&&◌, ◌||◌}
+use mathlib.Core.Bool.{Bool, true, false, cond, ◌||◌}
 use mathlib.Core.List.{List, [], ◌∷◌, ◌++◌, append_assoc, append-nil}
 use borrow.Author.Tests.{eq-eqb}
-use lib.Dec.{eqb}
 use lib.ListN.{length, take, drop}
 use Rattle.lines.specs.Lf.{prefixed, holds}
 use Rattle.lines.specs.Acts.{Act}
@@ -15,9 +14,9 @@ use Rattle.forms.specs.Primary.{bare, paren_if_needed}
 use Rattle.reading.specs.Reading.{Reading}
 use Rattle.calls.specs.Leaves.{Leaves}
 use Rattle.calls.specs.LeavesOf.{starts_below, blocks_by, leaves_of}
-use Rattle.calls.specs.Calls.{Item, stepAt, absorb, rebuild_calls_acts, rebuild_calls}
+use Rattle.calls.specs.Calls.{rebuild_calls_acts, rebuild_calls}
 use Rattle.calls.proofs.Room.{Put, put_is}
-use Rattle.calls.proofs.Told.{Absorbs, step-absorbs}
+use Rattle.calls.proofs.Told.{Absorbs}
 
 -- there are no more lines than before
 pub calls-lines : (L : Leaves) (ls : List (List ℕ)) → length (rebuild_calls L ls) ≤ length ls

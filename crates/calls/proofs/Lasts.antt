@@ -1,18 +1,18 @@
 -- Laws of the notes of lines that store a register: what the lines below it do with the register, and what a note says of that. Assumes nothing.
-use Prim.Native.Nat.{ℕ, zero, suc, ◌+◌, ◌-◌, ◌*◌, ◌/◌, ◌%◌, ◌≤◌, ◌<◌, max}
-use mathlib.Core.Path.{◌≡◌, refl, sym, ap, subst, ◌∙◌}
+use Prim.Native.Nat.{ℕ, zero, suc, ◌+◌, ◌≤◌, ◌<◌}
+use mathlib.Core.Path.{◌≡◌, refl, sym, ap, ◌∙◌}
 use mathlib.Core.Bool.{Bool, true, false, cond, not, ◌&&◌, ◌||◌}
-use mathlib.Core.List.{List, [], ◌∷◌, ◌++◌}
+use mathlib.Core.List.{List, [], ◌∷◌}
 use native.Mathlib.Omega.{arith}
-use borrow.Author.Tests.{lt-ltb, le-ltb, ltb-true, ltb-false, eq-eqb, ne_eqb, eqb-true, eqb-false}
+use borrow.Author.Tests.{lt-ltb, ltb-true, ne_eqb}
 use lib.Dec.{eqb, ltb}
-use lib.ListN.{length, drop, get_or}
+use lib.ListN.{length, drop}
 use Rattle.place.specs.Region.{is_header}
 use Rattle.reading.specs.Reading.{plain}
 use Rattle.reading.specs.Uses.{line_reads, line_stores}
 use Rattle.decls.specs.Inner.Firsts.{first_by, store_from, head_from}
-use Rattle.calls.specs.LeavesOf.{parsed_of, leaves_of}
-use Rattle.calls.specs.Calls.{stores_in, read_later}
+use Rattle.calls.specs.LeavesOf.{leaves_of}
+use Rattle.calls.specs.Calls.{read_later}
 use Rattle.calls.proofs.StepLaws.{stores-parsed}
 
 -- ---- the lines below a store. The number of a line is how many lines there are from it on, and 0 stands for no line

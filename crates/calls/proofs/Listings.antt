@@ -1,15 +1,15 @@
 -- Small listings over toy leaves: a line is a list of words, and a word is a number. Assumes nothing.
 -- 0 v ..: a store of register v; 100 + v: a read of it; 1: `(`; 2: `new`; 3: `++`; 7: a braceless control header; 8: `if (`; 9: a region's header;
 -- 30, 31: the parentheses that paren adds; 4, 5: braces.
-use Prim.Native.Nat.{ℕ, zero, suc, ◌+◌, ◌-◌}
+use Prim.Native.Nat.{ℕ, zero, suc, ◌+◌}
 use mathlib.Core.Path.{◌≡◌, refl}
-use mathlib.Core.Bool.{Bool, true, false, cond, not, ◌&&◌, ◌||◌}
+use mathlib.Core.Bool.{Bool, true, false, cond, not}
 use mathlib.Core.List.{List, [], ◌∷◌, ◌++◌}
 use lib.Dec.{eqb}
 use lib.ListN.{length}
-use Rattle.lines.specs.Acts.{Act, keep, become, into, gone, act, apply}
+use Rattle.lines.specs.Acts.{Act, become, into}
 use Rattle.calls.specs.Leaves.{Leaves, Parsed, store, other, Context, unclear, target, newed, operand}
-use Rattle.calls.specs.Calls.{row_lines, lines_on, has, made, on_step, stores_in, or_end, items_of, acts_up, read_later, breaks_one, put_by, storeStep, stepAt, walk, turn, rows_of, rebuild_calls_acts, rebuild_calls}
+use Rattle.calls.specs.Calls.{rebuild_calls_acts, rebuild_calls}
 
 -- how often a word stands in a line
 unfoldable pub count : ℕ → List ℕ → ℕ

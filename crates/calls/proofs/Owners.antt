@@ -1,12 +1,12 @@
 -- The Rust's whole test for a dropped row, `*o == li || inlined.contains(o)`: its first half never holds. Assumes nothing.
-use Prim.Native.Nat.{ℕ, zero, suc, ◌+◌, ◌-◌, ◌≤◌, ◌<◌}
-use mathlib.Core.Path.{◌≡◌, refl, sym, ap, ◌∙◌, fun_ext}
-use mathlib.Core.Bool.{Bool, true, false, cond, not, ◌&&◌, ◌||◌}
-use mathlib.Core.List.{List, [], ◌∷◌, ◌++◌}
+use Prim.Native.Nat.{ℕ, zero, suc, ◌-◌, ◌<◌}
+use mathlib.Core.Path.{◌≡◌, refl, ap, ◌∙◌, fun_ext}
+use mathlib.Core.Bool.{Bool, true, false, cond, ◌||◌}
+use mathlib.Core.List.{List, [], ◌∷◌}
 use native.Mathlib.Omega.{arith}
 use borrow.Author.Tests.{ne_eqb}
 use lib.Dec.{eqb}
-use Rattle.lines.specs.Acts.{Act, keep, become, into, gone, act}
+use Rattle.lines.specs.Acts.{Act, keep, become, into, gone}
 use Rattle.calls.specs.Leaves.{Leaves}
 use Rattle.calls.specs.Calls.{Item, Row, Walked, Step, end, skip, absorb, stop, pass, tries, settle_row, row_lines, lines_on, has, climb, made, on_step, read_later, stepAt, walk, turn, rows_of}
 use Rattle.calls.proofs.Cut.{walk_step}

@@ -1,15 +1,14 @@
 -- rebuild_calls, by any reading, raises no weight, does not lengthen a text, and brings no LF in. Assumes nothing.
-use Prim.Native.Nat.{ℕ, zero, suc, ◌+◌, ◌-◌, ◌≤◌, ◌<◌}
+use Prim.Native.Nat.{ℕ, ◌+◌, ◌-◌, ◌≤◌, ◌<◌}
 use mathlib.Core.Path.{◌≡◌, refl, sym, ap, ◌∙◌}
 use mathlib.Core.Bool.{Bool, true, false, cond, not, ◌&&◌, ◌||◌}
 use mathlib.Core.List.{List, [], ◌∷◌, ◌++◌, append_assoc}
 use native.Mathlib.Omega.{arith}
 use lib.Dec.{eqb, ltb}
-use lib.ListN.{length, take, drop, get_or, take-append-drop, length-append, length-take, length-drop}
-use lib.Seq.{drop-drop}
+use lib.ListN.{length, take, drop, get_or, length-append, length-take, length-drop}
 use Rattle.lines.specs.Lf.{part, up_to, ends_in, unlines}
 use Rattle.lines.specs.Inner.Lf.{lacks, no_lf}
-use Rattle.lines.proofs.LfLaws.{lacks-append, lacks-take, lacks-drop}
+use Rattle.lines.proofs.LfLaws.{lacks-take, lacks-drop}
 use Rattle.lines.proofs.Tests.{no, and_left, and_right}
 use Rattle.text.specs.declared.Span.{Span}
 use Rattle.text.specs.Trim.{from_of, to_end, trim_of}
@@ -25,16 +24,16 @@ use Rattle.parse.proofs.ParseLaws.{parse-place}
 use Rattle.words.specs.declared.Hit.{Hit}
 use Rattle.words.specs.declared.Hit.TheVariants as hit
 use Rattle.words.specs.Hits.{reg_hit, glue_left, glue_right, glued, replaced_at, replace_by, replace_reg}
-use Rattle.words.proofs.Places.{Stands, around, hit-stands, replace-hit, replace-lacks}
+use Rattle.words.proofs.Places.{around, hit-stands, replace-hit, replace-lacks}
 use Rattle.weight.specs.Inner.Weight.{spaced, extra, weight}
 use Rattle.weight.proofs.Weigh.{weight-append, weight-part, weight-line, nothing}
 use Rattle.weight.proofs.Moves.{bracketed, absorb-le, glued-is, not-spaced}
 use Rattle.forms.specs.Primary.{bare, paren_if_needed}
 use Rattle.forms.proofs.PrimaryLaws.{paren-length, paren-lacks}
 use Rattle.reading.specs.Reading.{Reading}
-use Rattle.calls.specs.Leaves.{Parsed, store, other, Context, unclear, target, newed, operand}
+use Rattle.calls.specs.Leaves.{store, other, Context, unclear, target, newed, operand}
 use Rattle.calls.specs.LeavesOf.{parsed_by, parsed_of, context_of, starts_below, blocks_by, leaves_by, leaves_of}
-use Rattle.calls.specs.Calls.{Step, end, skip, absorb, or_end, put_by, rebuild_calls}
+use Rattle.calls.specs.Calls.{end, absorb, or_end, put_by, rebuild_calls}
 use Rattle.calls.proofs.Weight.{code, apart, weighs, rebuilt-weight}
 
 -- ---- where a value stands in its line

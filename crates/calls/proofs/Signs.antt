@@ -1,28 +1,14 @@
 -- Cheap signs that decide for a line: a byte that it lacks. Assumes nothing.
-use Prim.Native.Nat.{ℕ, zero, suc, ◌+◌, ◌-◌, ◌*◌, ◌%◌, ◌≤◌, ◌<◌}
-use mathlib.Core.Path.{◌≡◌, refl, sym, ap, ◌∙◌}
-use mathlib.Core.Bool.{Bool, true, false, cond, not, ◌&&◌, ◌||◌}
-use mathlib.Core.List.{List, [], ◌∷◌, ◌++◌}
-use native.Mathlib.Omega.{arith}
-use borrow.Author.Tests.{eq-eqb, ne_eqb, eqb-false, leb-true}
-use lib.Dec.{eqb, ltb, leb}
-use lib.ListN.{length, take, drop, get_or, length-take, length-drop, get_or-eq_default}
-use Rattle.lines.specs.Lf.{part, up_to, all, prefixed, holds, ends_in, within}
-use Rattle.lines.proofs.Tests.{no, and_left, and_right, and_both, and-false}
-use Rattle.text.specs.Class.{is_name}
-use Rattle.text.specs.Trim.{from_of, to_of, trim_of}
-use Rattle.names.specs.Names.{is_digit, all_digits, value, reg_word, reg_of, reg_is}
-use Rattle.names.specs.declared.RegName.{RegName}
-use Rattle.names.specs.declared.RegName.TheVariants as name
-use Rattle.names.proofs.Digits.{all_append, number_read}
-use Rattle.names.proofs.Texts.{after-read, reg-number}
-use Rattle.parse.specs.Parse.{is_decl, store_by, split_store, store_in, parse_of, text_of}
-use Rattle.parse.specs.declared.Line.{Line}
-use Rattle.parse.specs.declared.Line.TheVariants as line
-use Rattle.words.specs.Runs.{flush, runs_go, runs, count_by, reads_of}
-use Rattle.words.proofs.RunLaws.{count-append}
+use Prim.Native.Nat.{ℕ}
+use mathlib.Core.Path.{◌≡◌, refl, sym, ◌∙◌}
+use mathlib.Core.Bool.{Bool, true, false, ◌&&◌, ◌||◌}
+use mathlib.Core.List.{List, [], ◌∷◌}
+use borrow.Author.Tests.{ne_eqb, eqb-false}
+use lib.Dec.{eqb}
+use lib.ListN.{get_or}
+use Rattle.lines.specs.Lf.{prefixed, holds}
+use Rattle.lines.proofs.Tests.{no, and-false}
 use Rattle.forms.specs.Control.{is_control}
-use Rattle.reading.specs.Uses.{line_reads, stores_by, line_stores}
 use Rattle.calls.specs.Inner.Steps.{is_second, may_control}
 
 -- ---- a condition or a loop

@@ -1,14 +1,14 @@
 -- Laws of the stack of lines and the table of owners, as lists. Assumes nothing.
-use Prim.Native.Nat.{ℕ, zero, suc, ◌+◌, ◌-◌, ◌≤◌, ◌<◌, min}
+use Prim.Native.Nat.{ℕ, zero, suc, ◌+◌, ◌-◌, ◌≤◌, ◌<◌}
 use mathlib.Core.Path.{◌≡◌, refl, sym, ap, ◌∙◌}
-use mathlib.Core.Bool.{Bool, true, false, cond}
-use mathlib.Core.List.{List, [], ◌∷◌, ◌++◌, append_assoc, append-nil, reverse, reverse_aux, reverse_aux-eq}
+use mathlib.Core.Bool.{true}
+use mathlib.Core.List.{List, [], ◌∷◌, ◌++◌, append_assoc, reverse, reverse_aux}
 use native.Mathlib.Omega.{arith}
 use lib.ListN.{length, take, drop, get_or, set, length-append, length-take, length-drop, take-append-drop}
-use lib.Seq.{take-suc, drop-cons, take_at, drop_at, take-take, drop-drop, take-add, length-take-le, get_or-set_same, take-set-le, drop-set-lt}
+use lib.Seq.{take-suc, drop-cons, take_at, drop_at, drop-drop, take-add, length-take-le, get_or-set_same, drop-set-lt}
 use Rattle.lines.specs.Lf.{part, unlines}
 use Rattle.lines.specs.Inner.Lf.{line_start, lacks}
-use Rattle.lines.specs.Acts.{Act, act}
+use Rattle.lines.specs.Acts.{Act}
 use Rattle.lines.proofs.ActLaws.{unlines-append}
 use Rattle.calls.specs.Calls.{Row, row_lines, acts_up}
 use Rattle.calls.specs.Inner.Tables.{owner_of, owners_of}

@@ -1,29 +1,29 @@
 -- Leaves that agree on the starts of statements and on the blocks rebuild alike; so do the tables of a reading. Assumes nothing.
-use Prim.Native.Nat.{ℕ, zero, suc, ◌+◌, ◌-◌, ◌≤◌, ◌<◌}
+use Prim.Native.Nat.{ℕ, zero, suc, ◌<◌}
 use mathlib.Core.Path.{◌≡◌, refl, sym, ap, ◌∙◌, subst}
 use mathlib.Core.Bool.{Bool, true, false, cond, not, ◌&&◌, ◌||◌}
-use mathlib.Core.List.{List, [], ◌∷◌, ◌++◌, append_assoc, append-nil, reverse, reverse-cons, reverse-reverse}
+use mathlib.Core.List.{List, [], ◌∷◌, ◌++◌, append_assoc, reverse, reverse-cons, reverse-reverse}
 use native.Mathlib.Omega.{arith}
 use lib.Dec.{eqb}
-use lib.ListN.{length, take, drop, get_or, length-append, length-reverse}
+use lib.ListN.{length, take, get_or, length-append, length-reverse}
 use lib.Seq.{take_at, get_or-take, length-take-le}
 use Rattle.lines.specs.Acts.{Act, keep, become, into, gone, apply}
 use Rattle.lexical.specs.declared.Open.{Open}
 use Rattle.lexical.specs.declared.Open.TheVariants.{Nothing}
 use Rattle.lexical.specs.Lex.{strip_lexical}
-use Rattle.lexical.specs.Joined.{taken, rest_at, open_below, rests_from, rests_in}
+use Rattle.lexical.specs.Joined.{rest_at, open_below, rests_from, rests_in}
 use Rattle.place.specs.Region.{is_header}
-use Rattle.place.specs.Blocks.{blocks, cleaned}
+use Rattle.place.specs.Blocks.{cleaned}
 use Rattle.place.specs.Inner.Blocks.{block_ids}
 use Rattle.place.specs.Starts.{starts_go, starts_above}
 use Rattle.place.specs.Inner.Fill.{flags_of}
 use Rattle.place.proofs.Starts.{starts-at, length-starts}
 use Rattle.reading.specs.Reading.{Reading, clean_in, reading_by}
 use Rattle.reading.specs.Uses.{line_reads}
-use Rattle.reading.proofs.Lined.{Lined, modes-lined}
+use Rattle.reading.proofs.Lined.{modes-lined}
 use Rattle.calls.specs.Leaves.{Leaves, Parsed, store, other}
 use Rattle.calls.specs.LeavesOf.{is_call, is_control_line, parsed_of, context_of, starts_below, blocks_by, leaves_by, leaves_of}
-use Rattle.calls.specs.Calls.{Item, Row, Walked, Step, end, skip, stop, pass, on_step, row_lines, lines_on, has, climb, items_of, acts_up, read_later, breaks_one, put_by, storeStep, stepAt, walk, settle_row, turn, rows_of, rebuild_calls_acts, rebuild_calls}
+use Rattle.calls.specs.Calls.{Item, Row, end, stop, pass, on_step, row_lines, lines_on, climb, items_of, acts_up, read_later, breaks_one, put_by, storeStep, stepAt, walk, settle_row, turn, rows_of, rebuild_calls_acts, rebuild_calls}
 use Rattle.calls.specs.Inner.Tables.{tabled}
 use Rattle.calls.proofs.Cut.{walk_step}
 use Rattle.calls.proofs.Edges.{items-on}

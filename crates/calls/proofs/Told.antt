@@ -1,12 +1,12 @@
 -- What the tables tell of the rows above a line, and that a walk leaves it so. Assumes nothing.
-use Prim.Native.Nat.{ℕ, zero, suc, ◌+◌, ◌-◌, ◌≤◌, ◌<◌}
+use Prim.Native.Nat.{ℕ, zero, suc, ◌-◌, ◌≤◌, ◌<◌}
 use mathlib.Core.Path.{◌≡◌, refl, sym, ap, ◌∙◌, subst}
 use mathlib.Core.Bool.{Bool, true, false, cond, not, ◌&&◌, ◌||◌}
-use mathlib.Core.List.{List, [], ◌∷◌, ◌++◌, append_assoc, append-nil, reverse, reverse-reverse}
+use mathlib.Core.List.{List, [], ◌∷◌, ◌++◌, append_assoc, append-nil, reverse}
 use native.Mathlib.Omega.{arith}
 use lib.Dec.{eqb}
-use lib.ListN.{length, take, drop, get_or, length-take}
-use lib.Seq.{drop-cons, get_or-take, take-nil, length-take-le}
+use lib.ListN.{length, take, drop, get_or}
+use lib.Seq.{length-take-le}
 use Rattle.lines.specs.Lf.{lines_of}
 use Rattle.lines.specs.Inner.Lf.{lacks, no_lf}
 use Rattle.lines.specs.Acts.{Act, keep, become, into, gone, act}
@@ -18,8 +18,7 @@ use Rattle.forms.specs.Primary.{paren_if_needed}
 use Rattle.forms.proofs.PrimaryLaws.{paren-lacks}
 use Rattle.place.specs.Region.{is_header}
 use Rattle.calls.specs.Leaves.{Leaves, Parsed, store, other}
-use Rattle.calls.specs.LeavesOf.{parsed_of, context_of}
-use Rattle.calls.specs.Calls.{Item, Row, Walked, Step, end, skip, absorb, tries, row_lines, lines_on, has, climb, made, items_of, acts_up, read_later, breaks_one, put_by, storeStep, stepAt, walk, turn, rows_of}
+use Rattle.calls.specs.Calls.{Item, Row, Step, end, skip, absorb, tries, row_lines, lines_on, has, climb, made, items_of, read_later, breaks_one, put_by, storeStep, stepAt, walk, turn, rows_of}
 use Rattle.calls.specs.Inner.Tables.{owner_of, tabled, rows_to, walk_from, items_in, rows_at, walk_at, line_at, Placed}
 use Rattle.calls.proofs.Cut.{walk_step}
 use Rattle.calls.proofs.Edges.{given, given-length, walk-given, turn-given, items-on}

@@ -1,8 +1,8 @@
 -- A line in its turn, and the loop over all lines. Assumes nothing.
-use Prim.Native.Nat.{ℕ, zero, suc, ◌+◌, ◌-◌, ◌≤◌, ◌<◌, min}
+use Prim.Native.Nat.{ℕ, suc, ◌+◌, ◌-◌, ◌≤◌, ◌<◌, min}
 use mathlib.Core.Path.{◌≡◌, refl, sym, ap, ◌∙◌, subst}
 use mathlib.Core.Bool.{Bool, true, false, cond, not, ◌&&◌}
-use mathlib.Core.List.{List, [], ◌∷◌, ◌++◌, append_assoc, append-nil}
+use mathlib.Core.List.{List, [], ◌∷◌, ◌++◌, append-nil}
 use native.Mathlib.Omega.{arith}
 use native.Mathlib.Numerals.{add-one}
 use borrow.Author.Tests.{eqb-true}
@@ -16,10 +16,9 @@ use Rattle.lines.proofs.ActLaws.{apply-append, unlines-append}
 use Rattle.lines.proofs.LfLaws.{lines-at, lines_end, find-le, part-more}
 use Rattle.lines.proofs.OutLaws.{wrote-length, wrote-part}
 use Rattle.place.specs.Region.{is_header}
-use Rattle.place.specs.Inner.Fill.{Filled}
 use Rattle.calls.specs.LeavesOf.{is_call, is_control_line}
-use Rattle.calls.specs.Calls.{Item, Row, Walked, tries, settle_row, row_lines, climb, acts_up, read_later, walk, turn, rebuild_calls_acts, rebuild_calls}
-use Rattle.calls.specs.Inner.Tables.{owner_of, owners_of, tabled, rows_to, rows_at, walk_at, line_at, Keeps, Stands, Placed, Foot, Peaked, LineAt, Ready, TurnedLine, Rebuilt}
+use Rattle.calls.specs.Calls.{Item, Row, Walked, tries, settle_row, climb, acts_up, read_later, turn, rebuild_calls_acts, rebuild_calls}
+use Rattle.calls.specs.Inner.Tables.{owner_of, owners_of, tabled, rows_to, rows_at, walk_at, line_at, Keeps, Stands, Placed, Foot, Peaked, Ready, TurnedLine, Rebuilt}
 use Rattle.calls.proofs.Cut.{acts-more, acts-length}
 use Rattle.calls.proofs.Edges.{given, given-length, walk-given}
 use Rattle.calls.proofs.Owners.{walk-owned, keep-owner}

@@ -1,6 +1,6 @@
 -- What a walk decides at a row, by the table of owners and the lines in between. Assumes nothing.
-use Prim.Native.Nat.{ℕ, zero, suc, ◌+◌, ◌-◌, ◌≤◌, ◌<◌}
-use mathlib.Core.Path.{◌≡◌, refl, sym, ap, ◌∙◌}
+use Prim.Native.Nat.{ℕ, suc, ◌-◌, ◌<◌}
+use mathlib.Core.Path.{◌≡◌, refl, ap, ◌∙◌}
 use mathlib.Core.Bool.{Bool, true, false, cond, not, ◌&&◌, ◌||◌}
 use mathlib.Core.List.{List, [], ◌∷◌, ◌++◌}
 use native.Mathlib.Omega.{arith}
@@ -13,7 +13,7 @@ use Rattle.reading.specs.Uses.{line_reads}
 use Rattle.forms.specs.Breaks.{breaks}
 use Rattle.calls.specs.Leaves.{Leaves, store, Context, unclear, target, newed, operand}
 use Rattle.calls.specs.LeavesOf.{parsed_of, context_of, leaves_by, leaves_of}
-use Rattle.calls.specs.Calls.{Item, Row, Step, end, skip, absorb, row_lines, stores_in, has, read_later, breaks_one, put_by, storeStep, stepAt}
+use Rattle.calls.specs.Calls.{Item, Row, Step, end, skip, row_lines, stores_in, read_later, breaks_one, put_by, storeStep, stepAt}
 use Rattle.calls.specs.Inner.Steps.{breaks_down, absorb_step}
 use Rattle.calls.specs.Inner.Tables.{owner_of}
 use Rattle.calls.proofs.Edges.{taken_lines, taken-lines, Passed, none_yet, over-row, took-row, owner_back, by-table}

@@ -1,13 +1,13 @@
 -- No weight of lines grows, if putting a value in does not raise it: room (length, commas, LF), and that no line holds an LF. Assumes nothing.
-use Prim.Native.Nat.{ℕ, zero, suc, ◌+◌, ◌-◌, ◌≤◌, ◌<◌}
-use mathlib.Core.Path.{◌≡◌, refl, sym, ap, ◌∙◌}
+use Prim.Native.Nat.{ℕ, zero, suc, ◌+◌, ◌-◌, ◌≤◌}
+use mathlib.Core.Path.{◌≡◌, refl, ap, ◌∙◌}
 use mathlib.Core.Bool.{Bool, true, false, cond, not, ◌&&◌, ◌||◌}
 use mathlib.Core.List.{List, [], ◌∷◌, ◌++◌}
 use native.Mathlib.Omega.{arith}
 use lib.Dec.{eqb}
-use Rattle.lines.specs.Acts.{Act, keep, become, into, gone, act, apply}
-use Rattle.calls.specs.Leaves.{Leaves, Parsed, store, other, Context}
-use Rattle.calls.specs.Calls.{Item, Row, Walked, Step, end, skip, absorb, stop, pass, tries, settle_row, row_lines, lines_on, has, climb, made, on_step, items_of, read_later, breaks_one, put_by, storeStep, stepAt, walk, turn, rows_of, rebuild_calls}
+use Rattle.lines.specs.Acts.{Act, keep, become, into, gone, act}
+use Rattle.calls.specs.Leaves.{Leaves, Parsed, store, other}
+use Rattle.calls.specs.Calls.{Item, Row, Step, end, skip, absorb, tries, row_lines, lines_on, has, climb, made, items_of, read_later, breaks_one, put_by, storeStep, stepAt, walk, turn, rows_of, rebuild_calls}
 use Rattle.calls.proofs.Cut.{walk_step}
 use Rattle.calls.proofs.Edges.{standing, rebuilt, items-on}
 

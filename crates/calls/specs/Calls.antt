@@ -1,9 +1,9 @@
 -- `rebuild_calls`: from each call line a walk up takes in the stores that feed it. Assumes nothing.
-use Prim.Native.Nat.{ℕ, zero, suc, ◌+◌, ◌-◌}
+use Prim.Native.Nat.{ℕ, zero, suc, ◌-◌}
 use Rattle.std.specs.Prelude.{Bool, true, false, ◌&&◌, ◌||◌, eqb}
 use Rattle.std.proofs.Math.Bool.{cond, not}
-use mathlib.Core.List.{List, [], ◌∷◌, ◌++◌}
-use Rattle.lines.specs.Acts.{Act, keep, become, into, gone, act, apply}
+use mathlib.Core.List.{List, [], ◌∷◌}
+use Rattle.lines.specs.Acts.{Act, keep, become, into, gone, apply}
 use Rattle.calls.specs.Leaves.{Leaves, Parsed, store, other, Context, unclear, target, newed, operand}
 
 -- a line with its block

@@ -1,6 +1,6 @@
 -- What `rebuild_calls` asks of lines, by any reading: `parse`, `reads_in`, `replace_reg`, `occurrence_context`, `paren_if_needed`,
 -- `breaks_dependency`, `is_control_header`, `starts_statement`, `block_ids`. Assumes nothing.
-use Rattle.std.specs.Prelude.{ℕ, Bool, cond, List, [], ◌∷◌, reverse}
+use Rattle.std.specs.Prelude.{ℕ, Bool, cond, List, reverse}
 use Rattle.lines.specs.Ascii.{ascii}
 use Rattle.lines.specs.Lf.{part, holds}
 use Rattle.text.specs.Trim.{trim_start}

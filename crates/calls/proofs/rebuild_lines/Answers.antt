@@ -1,9 +1,7 @@
-use Prim.Native.Nat.{◌-◌}
 use native.Mathlib.Omega.{arith}
 use Rattle.calls.proofs.Turns.{passes-start}
 use Rattle.calls.proofs.Downs.{viewed-start, viewed-asks, viewed-reach, viewed-ready, viewed-on, lined-end}
 use Rattle.calls.proofs.rebuild_lines.Goals as goal
-
 
 pub loop-n-init : goal.loop-n-init
 loop-n-init c = let p = c.requires.1 in viewed-start (passes-start p.0 p.1.0 p.1.1.0 p.1.1.1.0 p.1.1.1.1.0) p.1.1.1.1.1.0 c.requires.0

@@ -1,5 +1,5 @@
 use native.Mathlib.Omega.{arith}
-use Prim.Native.Nat.{ℕ, ◌+◌, ◌-◌}
+use Prim.Native.Nat.{ℕ}
 use mathlib.Core.List.{List}
 use Rattle.parse.specs.declared.Line.{Line}
 use Rattle.parse.specs.declared.Store.{Store}
@@ -8,7 +8,7 @@ use Rattle.calls.specs.Leaves.{other}
 use mathlib.Core.Path.{◌≡◌, refl, sym, ap, ◌∙◌}
 use Rattle.lines.specs.Lf.{part}
 use Rattle.calls.specs.LeavesOf.{parsed_by}
-use Rattle.calls.proofs.Climbs.{put-out, Climb, climb-start, climb-in, climb-out, row-some, step-some, turn_in, owner-in, blocks-in, text-some, ours-room, drop-end, drop-on, stack_some, other-end, may-end, absorb-room, noted_here, none_end, new-room, absorb-on}
+use Rattle.calls.proofs.Climbs.{put-out, climb-start, climb-in, climb-out, row-some, step-some, turn_in, owner-in, blocks-in, text-some, ours-room, drop-end, drop-on, stack_some, other-end, may-end, absorb-room, noted_here, none_end, new-room, absorb-on}
 use Rattle.calls.proofs.walk_up.Goals as goal
 
 no_store : (w : List ℕ) (p : Line) → ((x : Store) → p ≡ line.Store x → ⊥) → parsed_by w p ≡ other

@@ -1,5 +1,5 @@
 -- What the code of rebuild_calls does step by step. Assumes nothing.
-use Rattle.std.specs.Prelude.{ℕ, zero, suc, ◌≡◌, Bool, true, false, cond, not, ◌&&◌, ◌||◌, List, [], ◌∷◌, ◌++◌, eqb, length, get_or}
+use Rattle.std.specs.Prelude.{ℕ, suc, ◌≡◌, Bool, false, cond, not, ◌&&◌, ◌||◌, List, [], ◌∷◌, ◌++◌, eqb, length, get_or}
 use Prim.Native.Char.{code}
 use Rattle.lines.specs.Ascii.{ascii}
 use Rattle.lines.specs.Lf.{holds}
@@ -10,7 +10,7 @@ use Rattle.forms.specs.Breaks.{breaks}
 use Rattle.reading.specs.Reading.{Reading}
 use Rattle.reading.specs.Uses.{line_reads}
 use Rattle.calls.specs.LeavesOf.{context_of, leaves_of}
-use Rattle.calls.specs.Calls.{Step, end, skip, absorb, read_later, put_by}
+use Rattle.calls.specs.Calls.{Step, end, absorb, read_later, put_by}
 
 -- a byte stands second in a word that a condition or a loop begins with
 abbrev pub is_second : ℕ → Bool

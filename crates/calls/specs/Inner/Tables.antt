@@ -1,7 +1,7 @@
 -- What the code of rebuild_calls keeps in its tables. Assumes nothing.
-use Rattle.std.specs.Prelude.{ℕ, zero, suc, ◌+◌, ◌-◌, ◌≤◌, ◌<◌, min, ◌≡◌, Bool, List, [], ◌∷◌, eqb, length, take, drop, get_or}
+use Rattle.std.specs.Prelude.{ℕ, zero, suc, ◌+◌, ◌≤◌, ◌<◌, ◌≡◌, Bool, List, [], ◌∷◌, eqb, length, take, drop, get_or}
 use Prim.Native.Char.{code}
-use Rattle.lines.specs.Lf.{part, up_to, lines_of, unlines}
+use Rattle.lines.specs.Lf.{up_to, lines_of, unlines}
 use Rattle.lines.specs.Acts.{Act, keep, become, into, gone, act, apply}
 use Rattle.place.specs.Region.{is_header}
 use Rattle.place.specs.Inner.Fill.{Filled}

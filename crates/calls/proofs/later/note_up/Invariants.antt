@@ -1,4 +1,3 @@
-use Prim.Native.Nat.{◌-◌}
 use Rattle.calls.proofs.Rows.{Upward}
 use Rattle.calls.proofs.later.note_up.Given as goal
 
