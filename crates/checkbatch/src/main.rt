@@ -5,7 +5,6 @@ mod wire;
 
 ghost use Rattle.std.specs.Prelude.{◌≡◌, ◌≤◌, length};
 
-use libc::{STDIN_FILENO, STDOUT_FILENO};
 use pruned::Judged;
 
 // Room for a text: one byte more than is taken, so that a longer text is seen.
@@ -74,7 +73,7 @@ fn has_run(got: Judged) -> bool {
 }
 
 // Answers a request over buffers that are filled anew, and returns whether the answer went out.
-fn answer(short: usize, raw: &[u8], other: &[u8]) -> bool {
+fn answer(rt: &HostRuntime, short: usize, raw: &[u8], other: &[u8]) -> bool {
     let mut a = byte_room();
     let mut b = byte_room();
     let mut c = byte_room();
@@ -86,7 +85,7 @@ fn answer(short: usize, raw: &[u8], other: &[u8]) -> bool {
         & input::lent::as_fixed(&c, pruned::BYTES, ran)
         & input::lent::as_fixed(&live, pruned::PLACES, ran);
     wire::write_answer(
-        STDOUT_FILENO,
+        rt,
         pruned::number_of(got),
         memory,
         pruned::place_of(got),
@@ -94,30 +93,32 @@ fn answer(short: usize, raw: &[u8], other: &[u8]) -> bool {
 }
 
 // Reads the two texts of a request and answers it, and returns whether to go on.
-fn serve(short: usize) -> bool {
+fn serve(rt: &HostRuntime, short: usize) -> bool {
     let mut raw = text_room();
     let mut other = text_room();
-    let n = wire::read_text(STDIN_FILENO, &mut raw);
-    let m = wire::read_text(STDIN_FILENO, &mut other);
+    let mut from = rt.stdin();
+    let n = wire::read_text(&mut from, &mut raw);
+    let m = wire::read_text(&mut from, &mut other);
     if (n == wire::CUT) | (m == wire::CUT) {
         return false;
     }
-    answer(short, lines::cut(&raw, 0, n), lines::cut(&other, 0, m))
+    answer(rt, short, lines::cut(&raw, 0, n), lines::cut(&other, 0, m))
 }
 
 // Reads a request and answers it, and returns whether to go on.
-fn serve_one() -> bool {
-    let short = wire::read_one(STDIN_FILENO);
+fn serve_one(rt: &HostRuntime) -> bool {
+    let mut from = rt.stdin();
+    let short = wire::read_one(&mut from);
     if short == 256 {
         return false;
     }
-    serve(short)
+    serve(rt, short)
 }
 
 // Answers until the input ends. No run uses up the turns.
-fn main() {
+fn main(rt: HostRuntime) {
     let mut turns = u64::MAX;
-    while turns > 0 && serve_one() {
+    while turns > 0 && serve_one(&rt) {
         turns -= 1;
     }
 }

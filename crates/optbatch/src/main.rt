@@ -5,7 +5,6 @@ mod wire;
 
 ghost use Rattle.std.specs.Prelude.{◌≡◌, ◌≤◌, length};
 
-use libc::{STDIN_FILENO, STDOUT_FILENO};
 use limits::Answer;
 use wire::{Asked, Request};
 
@@ -152,6 +151,7 @@ fn has_run(got: Answer) -> bool {
 
 // Writes an answer, and returns whether it went out.
 fn tell(
+    rt: &HostRuntime,
     got: Answer,
     records: usize,
     a: &[u8],
@@ -166,19 +166,19 @@ fn tell(
     let n = limits::length_of(got);
     let memory = work_fixed(has_run(got), a, b, c, d, e, u) & input::lent::kept_from(out, n);
     if wire::write_answer(
-        STDOUT_FILENO,
+        rt,
         limits::number_of(got),
         memory,
         limits::place_of(got),
         lines::cut(out, 0, n),
     ) {
-        return wire::write_records(STDOUT_FILENO, lines::cut(orig, 0, records));
+        return wire::write_records(rt, lines::cut(orig, 0, records));
     }
     false
 }
 
 // Answers a request over buffers that are filled anew, and returns whether the answer went out.
-fn answer(q: Request, text: &[u8]) -> bool {
+fn answer(rt: &HostRuntime, q: Request, text: &[u8]) -> bool {
     let mut a = byte_room();
     let mut b = byte_room();
     let mut c = byte_room();
@@ -191,25 +191,26 @@ fn answer(q: Request, text: &[u8]) -> bool {
     let got = ask(
         q, text, &mut a, &mut b, &mut c, &mut d, &mut e, &mut u, &mut out, &mut orig,
     );
-    tell(got, records, &a, &b, &c, &d, &e, &u, &out, &orig)
+    tell(rt, got, records, &a, &b, &c, &d, &e, &u, &out, &orig)
 }
 
 // Reads a request and answers it, and returns whether to go on.
-fn serve_one() -> bool {
+fn serve_one(rt: &HostRuntime) -> bool {
     let mut text = text_room();
-    match wire::read_request(STDIN_FILENO, &mut text) {
+    let mut from = rt.stdin();
+    match wire::read_request(&mut from, &mut text) {
         Asked::Whole(q) => {
             let n = q.length;
-            answer(q, lines::cut(&text, 0, n))
+            answer(rt, q, lines::cut(&text, 0, n))
         }
         Asked::Ended => false,
     }
 }
 
 // Answers until the input ends. No run uses up the turns.
-fn main() {
+fn main(rt: HostRuntime) {
     let mut turns = u64::MAX;
-    while turns > 0 && serve_one() {
+    while turns > 0 && serve_one(&rt) {
         turns -= 1;
     }
 }

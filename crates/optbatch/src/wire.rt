@@ -1,5 +1,7 @@
 // Requests for whole texts, and answers to them.
-use input::wire::{byte_at, four, read_bytes};
+use input::host;
+use input::wire::{byte_at, four, read_bytes, read_full};
+use std::io::Stdin;
 
 // A request: the pass, the mode, which work buffer is short, the rooms for the result and for the records, and how much of the text there is.
 #[derive(Clone, Copy)]
@@ -20,13 +22,13 @@ pub enum Asked {
 }
 
 // Reads a request; a cut one is the end of the input.
-pub fn read_request(fd: i32, text: &mut [u8]) -> Asked {
+pub fn read_request(from: &mut Stdin, text: &mut [u8]) -> Asked {
     let mut h = [0u8; 15];
-    if io::read_full(fd, &mut h) != 15 {
+    if read_full(from, &mut h) != 15 {
         return Asked::Ended;
     }
     let n = four(h[11], h[12], h[13], h[14]);
-    if read_bytes(fd, n, text) {
+    if read_bytes(from, n, text) {
         return Asked::Whole(Request {
             pass: h[0],
             mode: h[1],
@@ -40,7 +42,7 @@ pub fn read_request(fd: i32, text: &mut [u8]) -> Asked {
 }
 
 // Writes an answer, and returns whether it went out.
-pub fn write_answer(fd: i32, number: u8, memory: bool, place: usize, res: &[u8]) -> bool {
+pub fn write_answer(rt: &HostRuntime, number: u8, memory: bool, place: usize, res: &[u8]) -> bool {
     let n = res.len();
     let h = [
         number,
@@ -54,14 +56,14 @@ pub fn write_answer(fd: i32, number: u8, memory: bool, place: usize, res: &[u8])
         byte_at(place, 65536),
         byte_at(place, 16777216),
     ];
-    if io::write_all(fd, &h) {
-        return io::write_all(fd, res);
+    if host::is_whole(host::write(rt, &h)) {
+        return host::is_whole(host::write(rt, res));
     }
     false
 }
 
 // Writes the buffer of records, its length in front, and returns whether it went out.
-pub fn write_records(fd: i32, records: &[u8]) -> bool {
+pub fn write_records(rt: &HostRuntime, records: &[u8]) -> bool {
     let n = records.len();
     let h = [
         byte_at(n, 1),
@@ -69,8 +71,8 @@ pub fn write_records(fd: i32, records: &[u8]) -> bool {
         byte_at(n, 65536),
         byte_at(n, 16777216),
     ];
-    if io::write_all(fd, &h) {
-        return io::write_all(fd, records);
+    if host::is_whole(host::write(rt, &h)) {
+        return host::is_whole(host::write(rt, records));
     }
     false
 }

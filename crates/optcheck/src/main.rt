@@ -10,7 +10,9 @@ mod tell;
 ghost use Rattle.std.specs.Prelude.{◌≡◌, length};
 
 use input::Got;
-use libc::{STDERR_FILENO, STDOUT_FILENO};
+use std::fs::File;
+use input::host;
+use input::host::{Opened, Sent, Word};
 use pruned::Judged;
 
 // Room for a text: one byte more than is taken, so that a longer text is seen.
@@ -20,79 +22,96 @@ fn text_room() -> [u8; 16385]
     [0; 16385]
 }
 
-// Reads the file of a name; says why where it did not come whole.
-fn load_named(name: &[u8], text: &mut [u8]) -> Got {
-    let fd = os::open_read(name);
-    if fd < 0 {
-        tell::fail(b"open ", name);
-        return Got::Failed;
+// What a file is: of so many bytes, or none that came whole, which is said.
+#[derive(Clone, Copy)]
+enum Loaded {
+    Whole(usize),
+    Failed,
+}
+
+// Reads an open file of a name; says why where it did not come whole.
+fn read_named(rt: &HostRuntime, from: File, name: &[u8], text: &mut [u8]) -> Loaded {
+    let mut from = from;
+    match input::read_input(&mut from, text) {
+        Got::Whole(n) => Loaded::Whole(n),
+        Got::Failed(why) => {
+            tell::fail(rt, b"read ", name, why);
+            Loaded::Failed
+        }
     }
-    match input::read_input(fd, text) {
-        Got::Whole(n) => Got::Whole(n),
-        Got::Failed => {
-            tell::fail(b"read ", name);
-            Got::Failed
+}
+
+// Reads the file of a name, likewise.
+fn load_named(rt: &HostRuntime, name: &[u8], text: &mut [u8]) -> Loaded {
+    match host::open(rt, name) {
+        Opened::Is(from) => read_named(rt, from, name, text),
+        Opened::Failed(why) => {
+            tell::fail(rt, b"open ", name, why);
+            Loaded::Failed
         }
     }
 }
 
 // Reads the file that an argument names.
-fn load(at: usize, text: &mut [u8]) -> Got {
-    let mut name = io::buffer();
-    let n = os::arg(at, &mut name);
-    if os::errno() != 0 {
-        os::fail(b"optcheck: cannot take the name of a file");
-        return Got::Failed;
+fn load(rt: &HostRuntime, at: usize, text: &mut [u8]) -> Loaded {
+    let mut name = host::buffer();
+    match host::take_arg(rt, at, &mut name) {
+        Word::Is(n) => load_named(rt, lines::cut(&name, 0, n), text),
+        Word::Failed(why) => {
+            host::say_failed(rt, b"optcheck: cannot take the name of a file", why);
+            Loaded::Failed
+        }
     }
-    load_named(&name[..n], text)
 }
 
 // Writes what is answered as one line, and returns whether it went out.
-fn put_answer(got: Judged) -> bool {
+fn put_answer(rt: &HostRuntime, got: Judged) -> Sent {
     let number = pruned::number_of(got);
     if number == 0 {
-        return io::write_all(STDOUT_FILENO, b"accepted\n");
+        return host::write(rt, b"accepted\n");
     }
-    io::write_all(STDOUT_FILENO, b"refused ")
-        & io::print_decimal(STDOUT_FILENO, number as u64)
-        & io::write_all(STDOUT_FILENO, b" ")
-        & io::print_decimal(STDOUT_FILENO, pruned::place_of(got) as u64)
-        & io::write_all(STDOUT_FILENO, b"\n")
+    host::write(rt, b"refused ")
+        & host::write_number(rt, number as u64)
+        & host::write(rt, b" ")
+        & host::write_number(rt, pruned::place_of(got) as u64)
+        & host::write(rt, b"\n")
 }
 
 // Checks a pruned text against a raw one, and says what came of it.
-fn report(raw: &[u8], other: &[u8]) {
+fn report(rt: &HostRuntime, raw: &[u8], other: &[u8]) {
     let got = against::judge(raw, other);
-    if !put_answer(got) {
-        os::fail(b"optcheck: cannot write standard output");
-        return;
+    match put_answer(rt, got) {
+        Sent::Whole => {}
+        Sent::Failed(why) => {
+            host::say_failed(rt, b"optcheck: cannot write standard output", why);
+            return;
+        }
     }
     let number = pruned::number_of(got);
     if number != 0 {
-        tell::explain(number, pruned::place_of(got), raw, other);
+        tell::explain(rt, number, pruned::place_of(got), raw, other);
     }
 }
 
 // Reads the pruned text and checks it against the raw one.
-fn check_against(raw: &[u8]) {
+fn check_against(rt: &HostRuntime, raw: &[u8]) {
     let mut other = text_room();
-    match load(2, &mut other) {
-        Got::Whole(n) => report(raw, lines::cut(&other, 0, n)),
-        Got::Failed => {}
+    match load(rt, 2, &mut other) {
+        Loaded::Whole(n) => report(rt, raw, lines::cut(&other, 0, n)),
+        Loaded::Failed => {}
     }
 }
 
-fn main() {
-    if os::arg_count() != 3 {
-        io::write_all(
-            STDERR_FILENO,
-            b"optcheck: it wants two files, the raw listing and the pruned one\n",
+fn main(rt: HostRuntime) {
+    let rt = &rt;
+    if host::arg_count(rt) != 3 {
+        host::say(rt, b"optcheck: it wants two files, the raw listing and the pruned one\n",
         );
         return;
     }
     let mut raw = text_room();
-    match load(1, &mut raw) {
-        Got::Whole(n) => check_against(lines::cut(&raw, 0, n)),
-        Got::Failed => {}
+    match load(rt, 1, &mut raw) {
+        Loaded::Whole(n) => check_against(rt, lines::cut(&raw, 0, n)),
+        Loaded::Failed => {}
     }
 }

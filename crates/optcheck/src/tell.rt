@@ -2,21 +2,21 @@
 // fixed words, so that no name makes one kind of message look like another.
 use crate::against::Found;
 use crate::left::Missing;
-use libc::STDERR_FILENO;
+use input::host;
 
-fn say(text: &[u8]) {
-    io::write_all(STDERR_FILENO, text);
+fn say(rt: &HostRuntime, text: &[u8]) {
+    host::say(rt, text);
 }
 
-fn say_number(n: usize) {
-    io::print_decimal(STDERR_FILENO, n as u64);
+fn say_number(rt: &HostRuntime, n: usize) {
+    host::say_number(rt, n as u64);
 }
 
 // Says what cannot be done to what, and the system's reason.
-pub fn fail(verb: &[u8], name: &[u8]) {
-    say(b"optcheck: cannot ");
-    say(verb);
-    os::fail(name);
+pub fn fail(rt: &HostRuntime, verb: &[u8], name: &[u8], why: i32) {
+    say(rt, b"optcheck: cannot ");
+    say(rt, verb);
+    host::say_failed(rt, name, why);
 }
 
 // A place from 0 as it is counted from 1.
@@ -41,89 +41,89 @@ fn line_number(text: &[u8], at: usize) -> usize {
 }
 
 // Says the line of a text that stands at a place.
-fn say_line(which: &[u8], text: &[u8], at: usize) {
-    say(b"optcheck: ");
-    say(which);
-    say(b" line ");
-    say_number(line_number(text, at));
-    say(b": ");
-    say(lines::cut(text, at, lines::find_byte(text, at, 10)));
-    say(b"\n");
+fn say_line(rt: &HostRuntime, which: &[u8], text: &[u8], at: usize) {
+    say(rt, b"optcheck: ");
+    say(rt, which);
+    say(rt, b" line ");
+    say_number(rt, line_number(text, at));
+    say(rt, b": ");
+    say(rt, lines::cut(text, at, lines::find_byte(text, at, 10)));
+    say(rt, b"\n");
 }
 
 // Says which name is left out that has to stay, where there is one.
-fn say_left_out(raw: &[u8], at: usize, p: &[u8]) {
+fn say_left_out(rt: &HostRuntime, raw: &[u8], at: usize, p: &[u8]) {
     match crate::left::left_out(raw, at, p) {
         Missing::Reg(q) => {
-            say(b"optcheck: r");
-            io::print_decimal(STDERR_FILENO, q.0);
-            say(b" is left out, and raw line ");
-            say_number(line_number(raw, crate::left::use_at(raw, at, q)));
-            say(b" uses it\n");
+            say(rt, b"optcheck: r");
+            host::say_number(rt, q.0);
+            say(rt, b" is left out, and raw line ");
+            say_number(rt, line_number(raw, crate::left::use_at(raw, at, q)));
+            say(rt, b" uses it\n");
         }
         Missing::None => {}
     }
 }
 
 // Says the raw line that a pruned line `p` stands against, and the name that it leaves out.
-fn say_against(raw: &[u8], at: usize, p: &[u8]) {
+fn say_against(rt: &HostRuntime, raw: &[u8], at: usize, p: &[u8]) {
     if at >= raw.len() {
-        say(b"optcheck: the raw listing has no line left for it\n");
+        say(rt, b"optcheck: the raw listing has no line left for it\n");
         return;
     }
-    say_line(b"raw", raw, at);
-    say_left_out(raw, at, p);
+    say_line(rt, b"raw", raw, at);
+    say_left_out(rt, raw, at, p);
 }
 
 // Tells at which line the pruned listing goes astray: `place` lines of it can be had.
-fn explain_astray(place: usize, raw: &[u8], other: &[u8]) {
-    say(b"the pruned listing cannot be had from the raw one\n");
+fn explain_astray(rt: &HostRuntime, place: usize, raw: &[u8], other: &[u8]) {
+    say(rt, b"the pruned listing cannot be had from the raw one\n");
     let at = behind(other, place);
     if at < other.len() {
-        say_line(b"pruned", other, at);
+        say_line(rt, b"pruned", other, at);
     } else {
-        say(b"optcheck: the pruned listing ends, and the raw one needs more\n");
+        say(rt, b"optcheck: the pruned listing ends, and the raw one needs more\n");
     }
     let p = lines::cut(other, at, lines::find_byte(other, at, 10));
     match crate::against::raw_line(raw, lines::cut(other, 0, at), place) {
-        Found::At(i) => say_against(raw, i, p),
+        Found::At(i) => say_against(rt, raw, i, p),
         Found::Nowhere => {}
     }
 }
 
 // Says what a check of one of the two listings found.
-fn explain_listing(number: u8, place: usize) {
+fn explain_listing(rt: &HostRuntime, number: u8, place: usize) {
     match number {
-        2 => say(b" is longer than 16384 bytes\n"),
+        2 => say(rt, b" is longer than 16384 bytes\n"),
         4 => {
-            say(b" is not UTF-8: the first bad byte has the offset ");
-            say_number(place);
-            say(b"\n");
+            say(rt, b" is not UTF-8: the first bad byte has the offset ");
+            say_number(rt, place);
+            say(rt, b"\n");
         }
-        5 => say(b" has more than 1024 lines\n"),
+        5 => say(rt, b" has more than 1024 lines\n"),
         6 => {
-            say(b" has more than 64 opening brackets [ in line ");
-            say_number(from_one(place));
-            say(b"\n");
+            say(rt, b" has more than 64 opening brackets [ in line ");
+            say_number(rt, from_one(place));
+            say(rt, b"\n");
         }
-        _ => say(b" was lent too little room, which is a fault of this program\n"),
+        _ => say(rt, b" was lent too little room, which is a fault of this program\n"),
     }
 }
 
 // Tells a person of a refusal.
-pub fn explain(number: u8, place: usize, raw: &[u8], other: &[u8]) {
-    say(b"optcheck: refused ");
-    say_number(number as usize);
-    say(b": ");
+pub fn explain(rt: &HostRuntime, number: u8, place: usize, raw: &[u8], other: &[u8]) {
+    say(rt, b"optcheck: refused ");
+    say_number(rt, number as usize);
+    say(rt, b": ");
     if number == 7 {
-        explain_astray(place, raw, other);
+        explain_astray(rt, place, raw, other);
         return;
     }
     if number < 20 {
-        say(b"the raw listing");
-        explain_listing(number, place);
+        say(rt, b"the raw listing");
+        explain_listing(rt, number, place);
         return;
     }
-    say(b"the pruned listing");
-    explain_listing(number - 20, place);
+    say(rt, b"the pruned listing");
+    explain_listing(rt, number - 20, place);
 }

@@ -2,8 +2,10 @@
 // 30 MB of the stack: tools/front.sh raises its limit. A listing that is small enough goes the way of optlines, unless its records are asked for in the form `OM`.
 #![tactic(auto)]
 
+use input::host;
 use limits::Answer;
 use origins::Form;
+use std::io::Read;
 use tidying::asked;
 use tidying::asked::Task;
 
@@ -145,14 +147,14 @@ fn form_for(task: Task, text: &[u8]) -> Form {
 }
 
 // Tidies a text, and says what came of it.
-fn tidy(task: Task, text: &[u8], name: &[u8]) {
+fn tidy(rt: &HostRuntime, task: Task, text: &[u8], name: &[u8]) {
     let form = form_for(task, text);
     let small = is_small(form, text);
     let mut out = work_room();
     let mut orig = record_room();
     let answer = answer_to(task, form, small, text, &mut out, &mut orig);
     let size = tidying::records_size(form, lines::count_lines(text));
-    tidying::report(
+    tidying::report(rt, 
         b"optlarge",
         task,
         answer,
@@ -163,27 +165,37 @@ fn tidy(task: Task, text: &[u8], name: &[u8]) {
     );
 }
 
-// Tidies what a descriptor delivers. Of a text that did not come whole nothing is written.
-fn tidy_input(task: Task, fd: i32, name: &[u8]) {
+// Tidies what a reader delivers. Of a text that did not come whole nothing is written.
+fn tidy_input<R: Read>(rt: &HostRuntime, task: Task, from: &mut R, name: &[u8]) {
     let mut text = text_room();
-    match input::read_input(fd, &mut text) {
-        input::Got::Whole(n) => tidy(task, lines::cut(&text, 0, n), name),
-        input::Got::Failed => tidying::tell::fail_with(b"optlarge", b"read ", name),
+    match input::read_input(from, &mut text) {
+        input::Got::Whole(n) => tidy(rt, task, lines::cut(&text, 0, n), name),
+        input::Got::Failed(why) => {
+            tidying::tell::fail_with(rt, b"optlarge", b"read ", name, why);
+        }
     }
 }
 
 // Tidies what argument `at` names, standard input where there is none.
-fn tidy_named(task: Task, at: usize) {
-    let mut name = io::buffer();
-    match tidying::open_named(b"optlarge", at, &mut name) {
-        tidying::Source::From(s) => tidy_input(task, s.fd, lines::cut(&name, 0, s.size)),
+fn tidy_named(rt: &HostRuntime, task: Task, at: usize) {
+    let mut name = host::buffer();
+    match tidying::open_named(rt, b"optlarge", at, &mut name) {
+        tidying::Source::Standard(size) => {
+            let mut from = rt.stdin();
+            tidy_input(rt, task, &mut from, lines::cut(&name, 0, size));
+        }
+        tidying::Source::From(s) => {
+            let mut s = s;
+            tidy_input(rt, task, &mut s.file, lines::cut(&name, 0, s.size));
+        }
         tidying::Source::Nowhere => {}
     }
 }
 
-fn main() {
-    match asked::ask(b"optlarge", true) {
-        asked::Asked::For(n) => tidy_named(n.task, n.at),
+fn main(rt: HostRuntime) {
+    let rt = &rt;
+    match asked::ask(rt, b"optlarge", true) {
+        asked::Asked::For(n) => tidy_named(rt, n.task, n.at),
         asked::Asked::Wrong => {}
     }
 }

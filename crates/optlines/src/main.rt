@@ -5,6 +5,8 @@
 
 ghost use Rattle.std.specs.Prelude.{◌≡◌, length};
 
+use input::host;
+use std::io::Read;
 use tidying::asked;
 use tidying::asked::Task;
 
@@ -30,12 +32,12 @@ fn record_room() -> [u8; 7168]
 }
 
 // Tidies a text, and says what came of it.
-fn tidy(task: Task, text: &[u8], name: &[u8]) {
+fn tidy(rt: &HostRuntime, task: Task, text: &[u8], name: &[u8]) {
     let mut out = result_room();
     let mut orig = record_room();
     let answer = tidying::answer_small(task, text, &mut out, &mut orig);
     let size = tidying::records_size(origins::Form::Ol, lines::count_lines(text));
-    tidying::report(
+    tidying::report(rt, 
         b"optlines",
         task,
         answer,
@@ -46,27 +48,37 @@ fn tidy(task: Task, text: &[u8], name: &[u8]) {
     );
 }
 
-// Tidies what a descriptor delivers. Of a text that did not come whole nothing is written.
-fn tidy_input(task: Task, fd: i32, name: &[u8]) {
+// Tidies what a reader delivers. Of a text that did not come whole nothing is written.
+fn tidy_input<R: Read>(rt: &HostRuntime, task: Task, from: &mut R, name: &[u8]) {
     let mut text = text_room();
-    match input::read_input(fd, &mut text) {
-        input::Got::Whole(n) => tidy(task, lines::cut(&text, 0, n), name),
-        input::Got::Failed => tidying::tell::fail_with(b"optlines", b"read ", name),
+    match input::read_input(from, &mut text) {
+        input::Got::Whole(n) => tidy(rt, task, lines::cut(&text, 0, n), name),
+        input::Got::Failed(why) => {
+            tidying::tell::fail_with(rt, b"optlines", b"read ", name, why);
+        }
     }
 }
 
 // Tidies what argument `at` names, standard input where there is none.
-fn tidy_named(task: Task, at: usize) {
-    let mut name = io::buffer();
-    match tidying::open_named(b"optlines", at, &mut name) {
-        tidying::Source::From(s) => tidy_input(task, s.fd, lines::cut(&name, 0, s.size)),
+fn tidy_named(rt: &HostRuntime, task: Task, at: usize) {
+    let mut name = host::buffer();
+    match tidying::open_named(rt, b"optlines", at, &mut name) {
+        tidying::Source::Standard(size) => {
+            let mut from = rt.stdin();
+            tidy_input(rt, task, &mut from, lines::cut(&name, 0, size));
+        }
+        tidying::Source::From(s) => {
+            let mut s = s;
+            tidy_input(rt, task, &mut s.file, lines::cut(&name, 0, s.size));
+        }
         tidying::Source::Nowhere => {}
     }
 }
 
-fn main() {
-    match asked::ask(b"optlines", false) {
-        asked::Asked::For(n) => tidy_named(n.task, n.at),
+fn main(rt: HostRuntime) {
+    let rt = &rt;
+    match asked::ask(rt, b"optlines", false) {
+        asked::Asked::For(n) => tidy_named(rt, n.task, n.at),
         asked::Asked::Wrong => {}
     }
 }

@@ -1,5 +1,6 @@
 // The entries of a PO file that was accepted, a line each.
-use libc::STDOUT_FILENO;
+use input::host;
+use input::host::Sent;
 
 // How long the head of a file is, its three lines with their LFs.
 const HEAD: usize = 63;
@@ -7,6 +8,9 @@ const HEAD: usize = 63;
 const ID_WORD: usize = 7;
 
 const STR_WORD: usize = 8;
+
+// The system's number for why an empty line is not written: that of no error.
+const EMPTY: i32 = 0;
 
 // The place behind `n` LFs, from `from` on; the end of the text where it has fewer.
 pub fn behind(text: &[u8], from: usize, n: usize) -> usize {
@@ -20,37 +24,38 @@ pub fn behind(text: &[u8], from: usize, n: usize) -> usize {
 }
 
 // Writes what stands between the quotes of the line at a place, behind a word with its quote.
-fn put_quoted(file: &[u8], at: usize, word: usize) -> bool {
+fn put_quoted(rt: &HostRuntime, file: &[u8], at: usize, word: usize) -> Sent {
     let l = lines::cut(file, at, lines::find_byte(file, at, 10));
     if l.len() == 0 {
-        return false;
+        return Sent::Failed(EMPTY);
     }
-    io::write_all(STDOUT_FILENO, lines::cut(l, word, l.len() - 1))
+    host::write(rt, lines::cut(l, word, l.len() - 1))
 }
 
 // Writes the entry at a place: its msgid, a TAB and its msgstr.
-fn put_pair(file: &[u8], at: usize) -> bool {
+fn put_pair(rt: &HostRuntime, file: &[u8], at: usize) -> Sent {
     let id = behind(file, at, 2);
     let translated = behind(file, id, 1);
-    put_quoted(file, id, ID_WORD)
-        & io::write_all(STDOUT_FILENO, b"\t")
-        & put_quoted(file, translated, STR_WORD)
-        & io::write_all(STDOUT_FILENO, b"\n")
+    put_quoted(rt, file, id, ID_WORD)
+        & host::write(rt, b"\t")
+        & put_quoted(rt, file, translated, STR_WORD)
+        & host::write(rt, b"\n")
 }
 
 // Writes the entries of a file, and returns whether they went out.
-pub fn put_pairs(file: &[u8]) -> bool {
+pub fn put_pairs(rt: &HostRuntime, file: &[u8]) -> Sent {
     let mut at = HEAD;
     let mut left = file.len();
     while left > 0 {
         if file.len() <= at {
-            return true;
+            return Sent::Whole;
         }
-        if !put_pair(file, at) {
-            return false;
+        match put_pair(rt, file, at) {
+            Sent::Whole => {}
+            Sent::Failed(why) => return Sent::Failed(why),
         }
         at = behind(file, at, 4);
         left -= 1;
     }
-    true
+    Sent::Whole
 }

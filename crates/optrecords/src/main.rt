@@ -8,7 +8,8 @@ mod tell;
 
 ghost use Rattle.std.specs.Prelude.{◌≡◌, ◌≤◌, length};
 
-use libc::{STDERR_FILENO, STDIN_FILENO, STDOUT_FILENO};
+use input::host;
+use input::host::Sent;
 use origins::Form;
 use reader::Reply;
 
@@ -30,87 +31,88 @@ fn turned_room() -> [u8; 1100000]
 }
 
 // Writes `refused`, a number and a place as one line, and returns whether it went out.
-fn put_refused(number: u8, place: usize) -> bool {
-    io::write_all(STDOUT_FILENO, b"refused ")
-        & io::print_decimal(STDOUT_FILENO, number as u64)
-        & io::write_all(STDOUT_FILENO, b" ")
-        & io::print_decimal(STDOUT_FILENO, place as u64)
-        & io::write_all(STDOUT_FILENO, b"\n")
+fn put_refused(rt: &HostRuntime, number: u8, place: usize) -> Sent {
+    host::write(rt, b"refused ")
+        & host::write_number(rt, number as u64)
+        & host::write(rt, b" ")
+        & host::write_number(rt, place as u64)
+        & host::write(rt, b"\n")
 }
 
 // Writes what came of a file to standard output, and returns whether it went out.
-fn put_answer(answer: Reply, out: &[u8]) -> bool {
+fn put_answer(rt: &HostRuntime, answer: Reply, out: &[u8]) -> Sent {
     let number = reader::number_of(answer);
     if number == 0 {
-        return io::write_all(STDOUT_FILENO, lines::cut(out, 0, reader::count_of(answer)));
+        return host::write(rt, lines::cut(out, 0, reader::count_of(answer)));
     }
-    put_refused(number, reader::place_of(answer))
+    put_refused(rt, number, reader::place_of(answer))
 }
 
 // Writes a file in the form `g`, or why it is not written.
-fn answer_to(g: Form, file: &[u8]) {
+fn answer_to(rt: &HostRuntime, g: Form, file: &[u8]) {
     let mut out = turned_room();
     let answer = reader::turn(reader::form_of(file), g, file, &mut out);
-    if !put_answer(answer, &out) {
-        os::fail(b"optrecords: cannot write standard output");
-        return;
+    match put_answer(rt, answer, &out) {
+        Sent::Whole => {}
+        Sent::Failed(why) => {
+            host::say_failed(rt, b"optrecords: cannot write standard output", why);
+            return;
+        }
     }
     let number = reader::number_of(answer);
     if number != 0 {
-        tell::explain(number, reader::place_of(answer));
+        tell::explain(rt, number, reader::place_of(answer));
     }
 }
 
 // Reads standard input whole, and writes it in the form `g`. Of a file that did not come whole nothing is written.
-fn take_input(g: Form) {
+fn take_input(rt: &HostRuntime, g: Form) {
     let mut file = file_room();
-    match input::read_input(STDIN_FILENO, &mut file) {
+    let mut from = rt.stdin();
+    match input::read_input(&mut from, &mut file) {
         input::Got::Whole(n) => {
             if n > MOST {
-                io::write_all(
-                    STDERR_FILENO,
-                    b"optrecords: cannot take more than 1100000 bytes of standard input\n",
+                host::say(rt, b"optrecords: cannot take more than 1100000 bytes of standard input\n",
                 );
                 return;
             }
-            answer_to(g, lines::cut(&file, 0, n));
+            answer_to(rt, g, lines::cut(&file, 0, n));
         }
-        input::Got::Failed => {
-            os::fail(b"optrecords: cannot read standard input");
+        input::Got::Failed(why) => {
+            host::say_failed(rt, b"optrecords: cannot read standard input", why);
         }
     }
 }
 
 // Whether an argument is a word. One that is missing or very long is none.
-fn is_word(at: usize, word: &[u8]) -> bool {
-    let mut room = io::buffer();
-    let n = os::arg(at, &mut room);
+fn is_word(rt: &HostRuntime, at: usize, word: &[u8]) -> bool {
+    let mut room = host::buffer();
+    let n = host::arg(rt, at, &mut room);
     lines::same(&room[..n], word)
 }
 
 // Takes the argument at a place, where it is the last, for the form to write.
-fn take_form(at: usize)
+fn take_form(rt: &HostRuntime, at: usize)
     requires { at ≤ 2 }
 {
-    let last = os::arg_count() == at + 1;
-    if last & is_word(at, b"OL") {
-        take_input(Form::Ol);
+    let last = host::arg_count(rt) == at + 1;
+    if last & is_word(rt, at, b"OL") {
+        take_input(rt, Form::Ol);
         return;
     }
-    if last & is_word(at, b"OM") {
-        take_input(Form::Om);
+    if last & is_word(rt, at, b"OM") {
+        take_input(rt, Form::Om);
         return;
     }
-    io::write_all(
-        STDERR_FILENO,
-        b"optrecords: give one argument, the form to write: OL or OM\n",
+    host::say(rt, b"optrecords: give one argument, the form to write: OL or OM\n",
     );
 }
 
-fn main() {
-    if is_word(1, b"--") {
-        take_form(2);
+fn main(rt: HostRuntime) {
+    let rt = &rt;
+    if is_word(rt, 1, b"--") {
+        take_form(rt, 2);
         return;
     }
-    take_form(1);
+    take_form(rt, 1);
 }

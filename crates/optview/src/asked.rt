@@ -1,5 +1,7 @@
 // The arguments of the program.
 
+use input::host;
+
 // What is asked: plain text or a page, and the mode of a number.
 #[derive(Clone, Copy)]
 pub struct Task {
@@ -36,24 +38,24 @@ enum Word {
 }
 
 // Whether an argument is a word. One that is missing or very long is none.
-fn is_word(at: usize, word: &[u8]) -> bool {
-    let mut room = io::buffer();
-    let n = os::arg(at, &mut room);
+fn is_word(rt: &HostRuntime, at: usize, word: &[u8]) -> bool {
+    let mut room = host::buffer();
+    let n = host::arg(rt, at, &mut room);
     lines::same(&room[..n], word)
 }
 
 // What an argument is.
-fn word_at(at: usize) -> Word {
-    if is_word(at, b"--text") {
+fn word_at(rt: &HostRuntime, at: usize) -> Word {
+    if is_word(rt, at, b"--text") {
         return Word::Text;
     }
-    if is_word(at, b"--strict") {
+    if is_word(rt, at, b"--strict") {
         return Word::Strict;
     }
-    if is_word(at, b"--joined") {
+    if is_word(rt, at, b"--joined") {
         return Word::Joined;
     }
-    if is_word(at, b"--") {
+    if is_word(rt, at, b"--") {
         return Word::End;
     }
     Word::Name
@@ -74,14 +76,14 @@ pub fn past(at: usize) -> usize {
 }
 
 // Takes the options, in any order, and `--`.
-pub fn take_words() -> Asked {
+pub fn take_words(rt: &HostRuntime) -> Asked {
     let mut text = false;
     let mut strict = false;
     let mut joined = false;
     let mut at = 1;
-    let mut left = os::arg_count();
+    let mut left = host::arg_count(rt);
     while 0 < left {
-        match word_at(at) {
+        match word_at(rt, at) {
             Word::Text => text = true,
             Word::Strict => strict = true,
             Word::Joined => joined = true,

@@ -3,6 +3,7 @@
 ghost use Rattle.std.specs.Prelude.{◌≡◌, cond, not, ◌&&◌, eqb, get_or};
 ghost use Rattle.optview.specs.Inner.Shown.{unseen_one, unseen_narrow, unseen_wide, unseen_len, is_sign, code_of};
 
+use input::host::Sent;
 use crate::put;
 
 // Whether a byte is a control, but a TAB.
@@ -73,17 +74,17 @@ fn code_of(s: &[u8], n: usize) -> u64
 }
 
 // Writes a character by its number.
-fn put_code(n: u64) -> bool {
-    put::bytes(b"<u>U+") & put::hex(n) & put::bytes(b"</u>")
+fn put_code(rt: &HostRuntime, n: u64) -> Sent {
+    put::bytes(rt, b"<u>U+") & put::hex(rt, n) & put::bytes(rt, b"</u>")
 }
 
 // Writes a byte that has a meaning in HTML.
-fn put_sign(b: u8) -> bool {
+fn put_sign(rt: &HostRuntime, b: u8) -> Sent {
     match b {
-        38 => put::bytes(b"&amp;"),
-        60 => put::bytes(b"&lt;"),
-        62 => put::bytes(b"&gt;"),
-        _ => put::bytes(b"&quot;"),
+        38 => put::bytes(rt, b"&amp;"),
+        60 => put::bytes(rt, b"&lt;"),
+        62 => put::bytes(rt, b"&gt;"),
+        _ => put::bytes(rt, b"&quot;"),
     }
 }
 
@@ -110,12 +111,12 @@ fn seen_len(s: &[u8]) -> usize {
 }
 
 // Writes the first character, which is not written as it is.
-fn put_other(s: &[u8]) -> bool {
+fn put_other(rt: &HostRuntime, s: &[u8]) -> Sent {
     let n = unseen_len(s);
     if n == 0 {
-        return put_sign(lines::byte_at(s, 0));
+        return put_sign(rt, lines::byte_at(s, 0));
     }
-    put_code(code_of(s, n))
+    put_code(rt, code_of(s, n))
 }
 
 // How many bytes the first character has that is not written as it is.
@@ -130,17 +131,17 @@ fn other_len(s: &[u8]) -> usize
 }
 
 // Writes a text.
-pub fn put_text(s: &[u8]) -> bool {
-    let mut went = true;
+pub fn put_text(rt: &HostRuntime, s: &[u8]) -> Sent {
+    let mut went = Sent::Whole;
     let mut i = 0;
     while i < s.len() {
         let n = seen_len(&s[i..]);
         if 0 < n {
             let e = put::past(i, n, s.len());
-            went = went & put::bytes(&s[i..e]);
+            went = went & put::bytes(rt, &s[i..e]);
             i = e;
         } else {
-            went = went & put_other(&s[i..]);
+            went = went & put_other(rt, &s[i..]);
             i = put::past(i, other_len(&s[i..]), s.len());
         }
     }

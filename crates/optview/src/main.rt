@@ -17,8 +17,10 @@ mod why;
 ghost use Rattle.std.specs.Prelude.{◌≡◌, cond, ◌*◌, leb, length};
 
 use asked::Task;
-use libc::{STDERR_FILENO, STDIN_FILENO};
+use input::host;
+use input::host::{Opened, Sent, Word};
 use origins::Form;
+use std::io::Read;
 
 // Room for a listing: one byte more than is taken, so that a longer one is seen.
 fn text_room() -> [u8; 16385]
@@ -63,7 +65,7 @@ fn size_of(n: usize) -> usize
 }
 
 // Shows a listing that is there whole.
-fn show(task: Task, text: &[u8], name: &[u8]) {
+fn show(rt: &HostRuntime, task: Task, text: &[u8], name: &[u8]) {
     let mut tidy = tidy_room();
     let mut records = record_room();
     let mut gone = stage_room();
@@ -78,16 +80,16 @@ fn show(task: Task, text: &[u8], name: &[u8]) {
     );
     let number = limits::number_of(answer);
     if number != 0 {
-        tell::refused(number, limits::place_of(answer), name);
+        tell::refused(rt, number, limits::place_of(answer), name);
         return;
     }
     let result = lines::cut(&tidy, 0, limits::length_of(answer));
     let all = lines::cut(&records, 0, size_of(lines::count_lines(text)));
-    show_linked(task.text, text, result, all, &gone, &held, name);
+    show_linked(rt, task.text, text, result, all, &gone, &held, name);
 }
 
 // Shows a listing with its result and its records, once the reader of records has linked the lines.
-fn show_linked(
+fn show_linked(rt: &HostRuntime, 
     bare: bool,
     text: &[u8],
     tidy: &[u8],
@@ -101,16 +103,17 @@ fn show_linked(
     let got = reader::lines_of_all(Form::Ol, records, &mut first, &mut next);
     let number = reader::number_of(got);
     if number != 0 {
-        tell::bad_records(number, reader::place_of(got));
+        tell::bad_records(rt, number, reader::place_of(got));
         return;
     }
-    if !put_all(bare, text, tidy, records, gone, held, &first, &next, name) {
-        tell::cannot_write();
+    match put_all(rt, bare, text, tidy, records, gone, held, &first, &next, name) {
+        Sent::Whole => {}
+        Sent::Failed(why) => tell::cannot_write(rt, why),
     }
 }
 
 // Writes what is asked for, and returns whether it went out.
-fn put_all(
+fn put_all(rt: &HostRuntime, 
     bare: bool,
     text: &[u8],
     tidy: &[u8],
@@ -120,56 +123,62 @@ fn put_all(
     first: &[usize],
     next: &[usize],
     name: &[u8],
-) -> bool {
+) -> Sent {
     if bare {
-        return plain::put_both(text, tidy, records, gone, held, first, next);
+        return plain::put_both(rt, text, tidy, records, gone, held, first, next);
     }
-    page::put_page(text, tidy, records, gone, held, first, next, name)
+    page::put_page(rt, text, tidy, records, gone, held, first, next, name)
 }
 
-// Shows what a descriptor delivers. Of a listing that did not come whole nothing is shown.
-fn show_input(task: Task, fd: i32, name: &[u8]) {
+// Shows what a reader delivers. Of a listing that did not come whole nothing is shown.
+fn show_input<R: Read>(rt: &HostRuntime, task: Task, from: &mut R, name: &[u8]) {
     let mut text = text_room();
-    match input::read_input(fd, &mut text) {
-        input::Got::Whole(n) => show(task, lines::cut(&text, 0, n), name),
-        input::Got::Failed => tell::fail(b"read ", name),
+    match input::read_input(from, &mut text) {
+        input::Got::Whole(n) => show(rt, task, lines::cut(&text, 0, n), name),
+        input::Got::Failed(why) => tell::fail(rt, b"read ", name, why),
     }
+}
+
+// Shows standard input.
+fn show_standard(rt: &HostRuntime, task: Task) {
+    let mut from = rt.stdin();
+    show_input(rt, task, &mut from, b"standard input");
 }
 
 // Shows the file of a name.
-fn show_file(task: Task, name: &[u8]) {
+fn show_file(rt: &HostRuntime, task: Task, name: &[u8]) {
     if lines::same(name, b"-") {
-        show_input(task, STDIN_FILENO, b"standard input");
+        show_standard(rt, task);
         return;
     }
-    let fd = os::open_read(name);
-    if fd < 0 {
-        tell::fail(b"open ", name);
-        return;
+    match host::open(rt, name) {
+        Opened::Is(file) => {
+            let mut file = file;
+            show_input(rt, task, &mut file, name);
+        }
+        Opened::Failed(why) => tell::fail(rt, b"open ", name, why),
     }
-    show_input(task, fd, name);
 }
 
 // Shows what argument `at` names, standard input where there is none.
-fn show_named(task: Task, at: usize) {
-    if os::arg_count() <= at {
-        show_input(task, STDIN_FILENO, b"standard input");
+fn show_named(rt: &HostRuntime, task: Task, at: usize) {
+    if host::arg_count(rt) <= at {
+        show_standard(rt, task);
         return;
     }
-    let mut name = io::buffer();
-    let n = os::arg(at, &mut name);
-    if os::errno() != 0 {
-        os::fail(b"optview: cannot take the file's name");
-        return;
+    let mut name = host::buffer();
+    match host::take_arg(rt, at, &mut name) {
+        Word::Is(n) => show_file(rt, task, lines::cut(&name, 0, n)),
+        Word::Failed(why) => host::say_failed(rt, b"optview: cannot take the file's name", why),
     }
-    show_file(task, &name[..n]);
 }
 
-fn main() {
-    let asked = asked::take_words();
-    if asked::past(asked.rest) < os::arg_count() {
-        io::write_all(STDERR_FILENO, b"optview: more than one file is named\n");
+fn main(rt: HostRuntime) {
+    let rt = &rt;
+    let asked = asked::take_words(rt);
+    if asked::past(asked.rest) < host::arg_count(rt) {
+        host::say(rt, b"optview: more than one file is named\n");
         return;
     }
-    show_named(asked.task, asked.rest);
+    show_named(rt, asked.task, asked.rest);
 }

@@ -1,41 +1,42 @@
 // A listing and what it became as plain text: each raw line with where it went and why, and each tidy line with the raw lines behind it. Each function returns
 // whether it went out.
+use input::host::Sent;
 use crate::{chain, put, why};
 use origins::{Form, Went};
 
 // A number from 1 to the right of a column of five, or a sign where there is none.
-fn put_column(n: usize) -> bool {
+fn put_column(rt: &HostRuntime, n: usize) -> Sent {
     let x = put::from_one(n);
     let gap = if x < 10 {
-        put::bytes(b"    ")
+        put::bytes(rt, b"    ")
     } else if x < 100 {
-        put::bytes(b"   ")
+        put::bytes(rt, b"   ")
     } else if x < 1000 {
-        put::bytes(b"  ")
+        put::bytes(rt, b"  ")
     } else {
-        put::bytes(b" ")
+        put::bytes(rt, b" ")
     };
-    gap & put::number(x)
+    gap & put::number(rt, x)
 }
 
 // The front of a raw line: its number, that of its tidy line, and a sign for its fate.
-fn put_front(k: usize, w: Went) -> bool {
-    let number = put_column(k);
+fn put_front(rt: &HostRuntime, k: usize, w: Went) -> Sent {
+    let number = put_column(rt, k);
     match w {
-        Went::Equal(n) => number & put_column(n) & put::bytes(b" = | "),
-        Went::Changed(n) => number & put_column(n) & put::bytes(b" ~ | "),
-        Went::Inside(n) => number & put_column(n) & put::bytes(b" > | "),
-        Went::Away => number & put::bytes(b"    - x | "),
+        Went::Equal(n) => number & put_column(rt, n) & put::bytes(rt, b" = | "),
+        Went::Changed(n) => number & put_column(rt, n) & put::bytes(rt, b" ~ | "),
+        Went::Inside(n) => number & put_column(rt, n) & put::bytes(rt, b" > | "),
+        Went::Away => number & put::bytes(rt, b"    - x | "),
     }
 }
 
 // The front of a line that says more of the one above.
-fn put_margin() -> bool {
-    put::bytes(b"               ")
+fn put_margin(rt: &HostRuntime) -> Sent {
+    put::bytes(rt, b"               ")
 }
 
 // What is said of raw line `k` below it. Where it changed, the chain from `at` on has the raw lines behind what it became.
-fn put_more(
+fn put_more(rt: &HostRuntime, 
     k: usize,
     w: Went,
     line: &[u8],
@@ -45,18 +46,18 @@ fn put_more(
     end: usize,
     gone: u8,
     held: u8,
-) -> bool {
+) -> Sent {
     match w {
-        Went::Equal(n) => true,
-        Went::Changed(n) => put_margin()
-            & put::bytes(b"became: ")
-            & put::bytes(tidy)
-            & put::bytes(b"\n")
-            & put_margin()
-            & why::put_changed(line, tidy, next, at, end, k)
-            & put::bytes(b"\n"),
-        Went::Inside(n) => put_margin() & why::put_inside(held, n) & put::bytes(b"\n"),
-        Went::Away => put_margin() & why::put_gone(gone, held, line) & put::bytes(b"\n"),
+        Went::Equal(n) => Sent::Whole,
+        Went::Changed(n) => put_margin(rt)
+            & put::bytes(rt, b"became: ")
+            & put::bytes(rt, tidy)
+            & put::bytes(rt, b"\n")
+            & put_margin(rt)
+            & why::put_changed(rt, line, tidy, next, at, end, k)
+            & put::bytes(rt, b"\n"),
+        Went::Inside(n) => put_margin(rt) & why::put_inside(rt, held, n) & put::bytes(rt, b"\n"),
+        Went::Away => put_margin(rt) & why::put_gone(rt, gone, held, line) & put::bytes(rt, b"\n"),
     }
 }
 
@@ -71,7 +72,7 @@ pub fn stands(w: Went) -> bool {
 }
 
 // Writes the raw lines, each with where it went.
-fn put_raw(
+fn put_raw(rt: &HostRuntime, 
     text: &[u8],
     tidy: &[u8],
     records: &[u8],
@@ -79,9 +80,9 @@ fn put_raw(
     held: &[u8],
     first: &[usize],
     next: &[usize],
-) -> bool {
+) -> Sent {
     let end = lines::count_lines(text);
-    let mut went = true;
+    let mut went = Sent::Whole;
     let mut i = 0;
     let mut p = 0;
     let mut k = 0;
@@ -92,8 +93,8 @@ fn put_raw(
         let at = chain::first_of(first, w, end);
         let g = lines::byte_at(gone, k);
         let h = lines::byte_at(held, k);
-        went = went & put_front(k, w) & put::bytes(line) & put::bytes(b"\n");
-        went = went & put_more(k, w, line, now, next, at, end, g, h);
+        went = went & put_front(rt, k, w) & put::bytes(rt, line) & put::bytes(rt, b"\n");
+        went = went & put_more(rt, k, w, line, now, next, at, end, g, h);
         if stands(w) {
             p = put::next_line(tidy, p);
         }
@@ -104,15 +105,15 @@ fn put_raw(
 }
 
 // Writes the numbers of the lines of a chain from 1, with a blank before each.
-pub fn put_numbers(next: &[usize], at: usize, end: usize) -> bool {
-    let mut went = true;
+pub fn put_numbers(rt: &HostRuntime, next: &[usize], at: usize, end: usize) -> Sent {
+    let mut went = Sent::Whole;
     let mut i = at;
     let mut left = end;
     while 0 < left {
         if end <= i {
             return went;
         }
-        went = went & put::bytes(b" ") & put::place(i);
+        went = went & put::bytes(rt, b" ") & put::place(rt, i);
         i = chain::number_or(next, i, end);
         left -= 1;
     }
@@ -120,22 +121,22 @@ pub fn put_numbers(next: &[usize], at: usize, end: usize) -> bool {
 }
 
 // Writes tidy line `n` with the raw lines behind it, which the chain from `at` on has: beside it where there is one, else below it.
-fn put_tidy_line(n: usize, line: &[u8], next: &[usize], at: usize, end: usize) -> bool {
-    let number = put_column(n);
+fn put_tidy_line(rt: &HostRuntime, n: usize, line: &[u8], next: &[usize], at: usize, end: usize) -> Sent {
+    let number = put_column(rt, n);
     if chain::count(next, at, end) == 1 {
-        return number & put_column(at) & put::bytes(b" | ") & put::bytes(line) & put::bytes(b"\n");
+        return number & put_column(rt, at) & put::bytes(rt, b" | ") & put::bytes(rt, line) & put::bytes(rt, b"\n");
     }
     number
-        & put::bytes(b"      | ")
-        & put::bytes(line)
-        & put::bytes(b"\n             from raw lines")
-        & put_numbers(next, at, end)
-        & put::bytes(b"\n")
+        & put::bytes(rt, b"      | ")
+        & put::bytes(rt, line)
+        & put::bytes(rt, b"\n             from raw lines")
+        & put_numbers(rt, next, at, end)
+        & put::bytes(rt, b"\n")
 }
 
 // Writes the tidy lines, which came of `end` raw lines, each with the raw lines behind it. There is one behind each of them, and the text may lack the last, an empty one.
-fn put_tidy(tidy: &[u8], first: &[usize], next: &[usize], end: usize) -> bool {
-    let mut went = true;
+fn put_tidy(rt: &HostRuntime, tidy: &[u8], first: &[usize], next: &[usize], end: usize) -> Sent {
+    let mut went = Sent::Whole;
     let mut i = 0;
     let mut n = 0;
     while n < end {
@@ -143,7 +144,7 @@ fn put_tidy(tidy: &[u8], first: &[usize], next: &[usize], end: usize) -> bool {
         if end <= at {
             return went;
         }
-        went = went & put_tidy_line(n, put::whole_line(tidy, i), next, at, end);
+        went = went & put_tidy_line(rt, n, put::whole_line(tidy, i), next, at, end);
         i = put::next_line(tidy, i);
         n += 1;
     }
@@ -151,7 +152,7 @@ fn put_tidy(tidy: &[u8], first: &[usize], next: &[usize], end: usize) -> bool {
 }
 
 // Writes both listings.
-pub fn put_both(
+pub fn put_both(rt: &HostRuntime, 
     text: &[u8],
     tidy: &[u8],
     records: &[u8],
@@ -159,9 +160,9 @@ pub fn put_both(
     held: &[u8],
     first: &[usize],
     next: &[usize],
-) -> bool {
-    put::bytes(b"  raw tidy     (= as it was, ~ changed, > inside another line, x gone)\n")
-        & put_raw(text, tidy, records, gone, held, first, next)
-        & put::bytes(b"\n tidy  raw\n")
-        & put_tidy(tidy, first, next, lines::count_lines(text))
+) -> Sent {
+    put::bytes(rt, b"  raw tidy     (= as it was, ~ changed, > inside another line, x gone)\n")
+        & put_raw(rt, text, tidy, records, gone, held, first, next)
+        & put::bytes(rt, b"\n tidy  raw\n")
+        & put_tidy(rt, tidy, first, next, lines::count_lines(text))
 }

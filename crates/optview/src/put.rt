@@ -1,14 +1,15 @@
 // Writing to standard output. Each function returns whether it went out.
 ghost use Rattle.std.specs.Prelude.{◌<◌, ◌≤◌};
 
-use libc::STDOUT_FILENO;
+use input::host;
+use input::host::Sent;
 
-pub fn bytes(s: &[u8]) -> bool {
-    io::write_all(STDOUT_FILENO, s)
+pub fn bytes(rt: &HostRuntime, s: &[u8]) -> Sent {
+    host::write(rt, s)
 }
 
-pub fn number(n: usize) -> bool {
-    io::print_decimal(STDOUT_FILENO, n as u64)
+pub fn number(rt: &HostRuntime, n: usize) -> Sent {
+    host::write_number(rt, n as u64)
 }
 
 // A number from 0 as it is counted from 1.
@@ -17,13 +18,13 @@ pub fn from_one(n: usize) -> usize {
 }
 
 // A number from 0, counted from 1.
-pub fn place(n: usize) -> bool {
-    number(from_one(n))
+pub fn place(rt: &HostRuntime, n: usize) -> Sent {
+    number(rt, from_one(n))
 }
 
 // A number in four digits of sixteen.
-pub fn hex(n: u64) -> bool {
-    io::print_hex(STDOUT_FILENO, n, 4)
+pub fn hex(rt: &HostRuntime, n: u64) -> Sent {
+    host::write_hex(rt, n)
 }
 
 // The place n places behind i, but not behind the end; at least the next one.

@@ -1,5 +1,7 @@
 // The arguments of the program.
 
+use input::host;
+
 // From here on a number stays as it is when a digit is put behind it: no line has such a number.
 const ENOUGH: usize = 1000000000000000000;
 
@@ -41,15 +43,15 @@ fn number_in(word: &[u8]) -> Number {
 }
 
 // The number that an argument is.
-pub fn number_of(at: usize) -> Number {
-    let mut room = io::buffer();
-    let n = os::arg(at, &mut room);
+pub fn number_of(rt: &HostRuntime, at: usize) -> Number {
+    let mut room = host::buffer();
+    let n = host::arg(rt, at, &mut room);
     number_in(&room[..n])
 }
 
 // Whether an argument is a word. One that is missing or very long is none.
-pub fn is_word(at: usize, word: &[u8]) -> bool {
-    let mut room = io::buffer();
-    let n = os::arg(at, &mut room);
+pub fn is_word(rt: &HostRuntime, at: usize, word: &[u8]) -> bool {
+    let mut room = host::buffer();
+    let n = host::arg(rt, at, &mut room);
     lines::same(&room[..n], word)
 }

@@ -1,13 +1,14 @@
 // What the program writes to standard output. Each function returns whether it went out.
-use libc::STDOUT_FILENO;
+use input::host;
+use input::host::Sent;
 
 // Writes `refused`, a number and a place as one line.
-pub fn put_refused(number: u8, place: usize) -> bool {
-    io::write_all(STDOUT_FILENO, b"refused ")
-        & io::print_decimal(STDOUT_FILENO, number as u64)
-        & io::write_all(STDOUT_FILENO, b" ")
-        & io::print_decimal(STDOUT_FILENO, place as u64)
-        & io::write_all(STDOUT_FILENO, b"\n")
+pub fn put_refused(rt: &HostRuntime, number: u8, place: usize) -> Sent {
+    host::write(rt, b"refused ")
+        & host::write_number(rt, number as u64)
+        & host::write(rt, b" ")
+        & host::write_number(rt, place as u64)
+        & host::write(rt, b"\n")
 }
 
 // The number at a place, or 0 past the end.
@@ -19,18 +20,20 @@ fn number_at(numbers: &[usize], i: usize) -> usize {
 }
 
 // Writes the first `n` numbers, a line each.
-pub fn put_numbers(numbers: &[usize], n: usize) -> bool {
+pub fn put_numbers(rt: &HostRuntime, numbers: &[usize], n: usize) -> Sent {
     let mut i = 0;
     while i < n {
-        if !io::print_decimal(STDOUT_FILENO, number_at(numbers, i) as u64) {
-            return false;
+        match host::write_number(rt, number_at(numbers, i) as u64) {
+            Sent::Whole => {}
+            Sent::Failed(why) => return Sent::Failed(why),
         }
-        if !io::write_all(STDOUT_FILENO, b"\n") {
-            return false;
+        match host::write(rt, b"\n") {
+            Sent::Whole => {}
+            Sent::Failed(why) => return Sent::Failed(why),
         }
         i += 1;
     }
-    true
+    Sent::Whole
 }
 
 // The place behind line `to`, from the place behind line `from` on.
@@ -64,17 +67,17 @@ fn from_one(n: usize) -> usize {
 }
 
 // Writes a line of a raw listing as an editor reads it: the name, the number from 1, the text.
-fn put_line(name: &[u8], number: usize, line: &[u8]) -> bool {
-    io::write_all(STDOUT_FILENO, name)
-        & io::write_all(STDOUT_FILENO, b":")
-        & io::print_decimal(STDOUT_FILENO, from_one(number) as u64)
-        & io::write_all(STDOUT_FILENO, b":")
-        & io::write_all(STDOUT_FILENO, line)
-        & io::write_all(STDOUT_FILENO, b"\n")
+fn put_line(rt: &HostRuntime, name: &[u8], number: usize, line: &[u8]) -> Sent {
+    host::write(rt, name)
+        & host::write(rt, b":")
+        & host::write_number(rt, from_one(number) as u64)
+        & host::write(rt, b":")
+        & host::write(rt, line)
+        & host::write(rt, b"\n")
 }
 
 // Writes the raw lines of the first `n` numbers, which ascend.
-pub fn put_lines(numbers: &[usize], n: usize, raw: &[u8], name: &[u8]) -> bool {
+pub fn put_lines(rt: &HostRuntime, numbers: &[usize], n: usize, raw: &[u8], name: &[u8]) -> Sent {
     let mut i = 0;
     let mut at = 0;
     let mut line = 0;
@@ -82,10 +85,11 @@ pub fn put_lines(numbers: &[usize], n: usize, raw: &[u8], name: &[u8]) -> bool {
         let next = number_at(numbers, i);
         at = behind(raw, at, line, next);
         line = next;
-        if !put_line(name, next, line_at(raw, at)) {
-            return false;
+        match put_line(rt, name, next, line_at(raw, at)) {
+            Sent::Whole => {}
+            Sent::Failed(why) => return Sent::Failed(why),
         }
         i += 1;
     }
-    true
+    Sent::Whole
 }

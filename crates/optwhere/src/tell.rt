@@ -1,72 +1,72 @@
 // What the program says on standard error: for a refusal its number, what it means, where it is and what to do, each on a line.
 // A file's name stands behind fixed words, so that no name makes one kind of message look like another.
-use libc::STDERR_FILENO;
+use input::host;
 
-fn say(text: &[u8]) {
-    io::write_all(STDERR_FILENO, text);
+fn say(rt: &HostRuntime, text: &[u8]) {
+    host::say(rt, text);
 }
 
-fn say_number(n: usize) {
-    io::print_decimal(STDERR_FILENO, n as u64);
+fn say_number(rt: &HostRuntime, n: usize) {
+    host::say_number(rt, n as u64);
 }
 
 // Says what cannot be done to what, and the system's reason.
-pub fn fail(verb: &[u8], name: &[u8]) {
-    say(b"optwhere: cannot ");
-    say(verb);
-    os::fail(name);
+pub fn fail(rt: &HostRuntime, verb: &[u8], name: &[u8], why: i32) {
+    say(rt, b"optwhere: cannot ");
+    say(rt, verb);
+    host::say_failed(rt, name, why);
 }
 
 // Says that a file is longer than is taken.
-pub fn too_long(name: &[u8], most: usize) {
-    say(b"optwhere: cannot take more than ");
-    say_number(most);
-    say(b" bytes of ");
-    say(name);
-    say(b"\n");
+pub fn too_long(rt: &HostRuntime, name: &[u8], most: usize) {
+    say(rt, b"optwhere: cannot take more than ");
+    say_number(rt, most);
+    say(rt, b" bytes of ");
+    say(rt, name);
+    say(rt, b"\n");
 }
 
 // Says that a raw listing is not the one that the records are about.
-pub fn other_listing(name: &[u8], there: usize, records: usize) {
-    say(b"optwhere: the records are not those of ");
-    say(name);
-    say(b": it has ");
-    say_number(there);
-    say(b" lines, and they are ");
-    say_number(records);
-    say(b"\n");
+pub fn other_listing(rt: &HostRuntime, name: &[u8], there: usize, records: usize) {
+    say(rt, b"optwhere: the records are not those of ");
+    say(rt, name);
+    say(rt, b": it has ");
+    say_number(rt, there);
+    say(rt, b" lines, and they are ");
+    say_number(rt, records);
+    say(rt, b"\n");
 }
 
 // Says that an argument is not the number of a line.
-pub fn no_number(at: usize) {
-    let mut word = io::buffer();
-    let n = os::arg(at, &mut word);
-    say(b"optwhere: not the number of a line: ");
-    say(&word[..n]);
-    say(b"\n");
+pub fn no_number(rt: &HostRuntime, at: usize) {
+    let mut word = host::buffer();
+    let n = host::arg(rt, at, &mut word);
+    say(rt, b"optwhere: not the number of a line: ");
+    say(rt, &word[..n]);
+    say(rt, b"\n");
 }
 
 // What a refusal means.
-fn meaning(number: u8) {
+fn meaning(rt: &HostRuntime, number: u8) {
     match number {
-        1 => say(b"the records end within a record\n"),
-        2 => say(b"a record begins with another mark than the file's\n"),
-        3 => say(b"a record is out of order: its input line is not its own number\n"),
-        4 => say(b"a record has an unknown fate\n"),
-        5 => say(b"a record's fate and its output line disagree\n"),
-        _ => say(b"there is too little room, which is a fault of this program\n"),
+        1 => say(rt, b"the records end within a record\n"),
+        2 => say(rt, b"a record begins with another mark than the file's\n"),
+        3 => say(rt, b"a record is out of order: its input line is not its own number\n"),
+        4 => say(rt, b"a record has an unknown fate\n"),
+        5 => say(rt, b"a record's fate and its output line disagree\n"),
+        _ => say(rt, b"there is too little room, which is a fault of this program\n"),
     }
 }
 
 // Says what a refusal means.
-pub fn explain(number: u8, place: usize) {
-    say(b"optwhere: refused ");
-    say_number(number as usize);
-    say(b": ");
-    meaning(number);
-    say(b"optwhere: at record ");
-    say_number(place);
-    say(
+pub fn explain(rt: &HostRuntime, number: u8, place: usize) {
+    say(rt, b"optwhere: refused ");
+    say_number(rt, number as usize);
+    say(rt, b": ");
+    meaning(rt, number);
+    say(rt, b"optwhere: at record ");
+    say_number(rt, place);
+    say(rt, 
         b", counted from 0\noptwhere: have the records written anew, or get the whole file again\n",
     );
 }

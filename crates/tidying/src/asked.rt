@@ -1,5 +1,7 @@
 // The arguments of the programs that tidy a listing.
 
+use input::host;
+
 // The forms of the records that may be asked for: none by name, `OL`, or `OM`.
 pub const ANY: u8 = 0;
 
@@ -44,26 +46,26 @@ enum Word {
 }
 
 // What an argument is. `forms` says whether the program has the option for a form.
-fn word_at(at: usize, forms: bool) -> Word {
-    if is_word(at, b"--strict") {
+fn word_at(rt: &HostRuntime, at: usize, forms: bool) -> Word {
+    if is_word(rt, at, b"--strict") {
         return Word::Strict;
     }
-    if is_word(at, b"--joined") {
+    if is_word(rt, at, b"--joined") {
         return Word::Joined;
     }
-    if is_word(at, b"--pass") {
+    if is_word(rt, at, b"--pass") {
         return Word::Pass;
     }
-    if is_word(at, b"--origins") {
+    if is_word(rt, at, b"--origins") {
         return Word::Origins;
     }
-    if forms & is_word(at, b"--form") {
+    if forms & is_word(rt, at, b"--form") {
         return Word::Form;
     }
-    if is_word(at, b"--") {
+    if is_word(rt, at, b"--") {
         return Word::End;
     }
-    if is_option(at) {
+    if is_option(rt, at) {
         return Word::Unknown;
     }
     Word::Name
@@ -108,23 +110,23 @@ fn number_in(word: &[u8]) -> Number {
 }
 
 // The number that an argument is.
-fn number_of(at: usize) -> Number {
-    let mut room = io::buffer();
-    let n = os::arg(at, &mut room);
+fn number_of(rt: &HostRuntime, at: usize) -> Number {
+    let mut room = host::buffer();
+    let n = host::arg(rt, at, &mut room);
     number_in(&room[..n])
 }
 
 // Whether an argument is a word. One that is missing or very long is none.
-fn is_word(at: usize, word: &[u8]) -> bool {
-    let mut room = io::buffer();
-    let n = os::arg(at, &mut room);
+fn is_word(rt: &HostRuntime, at: usize, word: &[u8]) -> bool {
+    let mut room = host::buffer();
+    let n = host::arg(rt, at, &mut room);
     lines::same(&room[..n], word)
 }
 
 // Whether an argument is an option: it begins with `-` and has more behind it.
-fn is_option(at: usize) -> bool {
-    let mut room = io::buffer();
-    let n = os::arg(at, &mut room);
+fn is_option(rt: &HostRuntime, at: usize) -> bool {
+    let mut room = host::buffer();
+    let n = host::arg(rt, at, &mut room);
     (n > 1) & (room[0] == b'-')
 }
 
@@ -144,8 +146,8 @@ pub struct Next {
 }
 
 // Takes the number of a pass from argument `at`.
-fn take_pass(program: &[u8], task: Task, at: usize) -> Taken {
-    match number_of(at) {
+fn take_pass(rt: &HostRuntime, program: &[u8], task: Task, at: usize) -> Taken {
+    match number_of(rt, at) {
         Number::Is(pass) => {
             let mut task = task;
             task.one = true;
@@ -154,16 +156,16 @@ fn take_pass(program: &[u8], task: Task, at: usize) -> Taken {
             Taken::Option(Next { task, at })
         }
         Number::Missing => {
-            crate::tell::say_word(program, b": --pass wants a number from 1 to 6, not: ", at);
+            crate::tell::say_word(rt, program, b": --pass wants a number from 1 to 6, not: ", at);
             Taken::Wrong
         }
     }
 }
 
 // Takes the name of the file for the records from argument `at`.
-fn take_records(program: &[u8], task: Task, at: usize) -> Taken {
-    if os::arg_count() <= at {
-        crate::tell::say_line(program, b": --origins wants a file's name\n");
+fn take_records(rt: &HostRuntime, program: &[u8], task: Task, at: usize) -> Taken {
+    if host::arg_count(rt) <= at {
+        crate::tell::say_line(rt, program, b": --origins wants a file's name\n");
         return Taken::Wrong;
     }
     let mut task = task;
@@ -173,21 +175,21 @@ fn take_records(program: &[u8], task: Task, at: usize) -> Taken {
 }
 
 // The form that an argument names; none where it names none.
-fn form_at(at: usize) -> u8 {
-    if is_word(at, b"OL") {
+fn form_at(rt: &HostRuntime, at: usize) -> u8 {
+    if is_word(rt, at, b"OL") {
         return OL;
     }
-    if is_word(at, b"OM") {
+    if is_word(rt, at, b"OM") {
         return OM;
     }
     ANY
 }
 
 // Takes the form of the records from argument `at`.
-fn take_form(program: &[u8], task: Task, at: usize) -> Taken {
-    let form = form_at(at);
+fn take_form(rt: &HostRuntime, program: &[u8], task: Task, at: usize) -> Taken {
+    let form = form_at(rt, at);
     if form == ANY {
-        crate::tell::say_word(program, b": --form wants OL or OM, not: ", at);
+        crate::tell::say_word(rt, program, b": --form wants OL or OM, not: ", at);
         return Taken::Wrong;
     }
     let mut task = task;
@@ -197,10 +199,10 @@ fn take_form(program: &[u8], task: Task, at: usize) -> Taken {
 }
 
 // Takes argument `at`.
-fn take(program: &[u8], forms: bool, task: Task, at: usize) -> Taken {
+fn take(rt: &HostRuntime, program: &[u8], forms: bool, task: Task, at: usize) -> Taken {
     let mut task = task;
     let next = past(at);
-    match word_at(at, forms) {
+    match word_at(rt, at, forms) {
         Word::Strict => {
             task.strict = true;
             Taken::Option(Next { task, at: next })
@@ -209,12 +211,12 @@ fn take(program: &[u8], forms: bool, task: Task, at: usize) -> Taken {
             task.joined = true;
             Taken::Option(Next { task, at: next })
         }
-        Word::Pass => take_pass(program, task, next),
-        Word::Origins => take_records(program, task, next),
-        Word::Form => take_form(program, task, next),
+        Word::Pass => take_pass(rt, program, task, next),
+        Word::Origins => take_records(rt, program, task, next),
+        Word::Form => take_form(rt, program, task, next),
         Word::End => Taken::Rest(next),
         Word::Unknown => {
-            crate::tell::say_word(program, b": no such option: ", at);
+            crate::tell::say_word(rt, program, b": no such option: ", at);
             Taken::Wrong
         }
         Word::Name => Taken::Rest(at),
@@ -229,16 +231,16 @@ pub enum Asked {
 }
 
 // What is asked, where from place `at` on there is a file's name or none.
-fn with_file(program: &[u8], task: Task, at: usize) -> Asked {
-    if os::arg_count() > past(at) {
-        crate::tell::say_line(program, b": more than one file is named\n");
+fn with_file(rt: &HostRuntime, program: &[u8], task: Task, at: usize) -> Asked {
+    if host::arg_count(rt) > past(at) {
+        crate::tell::say_line(rt, program, b": more than one file is named\n");
         return Asked::Wrong;
     }
     Asked::For(Next { task, at })
 }
 
 // Takes the arguments of a program of a name: options in any order, that for a form where the program has it, then `--` or nothing, then a file's name or none.
-pub fn ask(program: &[u8], forms: bool) -> Asked {
+pub fn ask(rt: &HostRuntime, program: &[u8], forms: bool) -> Asked {
     let mut task = Task {
         one: false,
         pass: 0,
@@ -248,21 +250,21 @@ pub fn ask(program: &[u8], forms: bool) -> Asked {
         records: 0,
     };
     let mut at = 1;
-    let mut left = os::arg_count();
+    let mut left = host::arg_count(rt);
     while 0 < left {
-        match take(program, forms, task, at) {
+        match take(rt, program, forms, task, at) {
             Taken::Option(n) => {
                 task = n.task;
                 at = n.at;
                 left -= 1;
             }
             Taken::Rest(i) => {
-                return with_file(program, task, i);
+                return with_file(rt, program, task, i);
             }
             Taken::Wrong => {
                 return Asked::Wrong;
             }
         }
     }
-    with_file(program, task, at)
+    with_file(rt, program, task, at)
 }

@@ -7,8 +7,10 @@ pub mod tell;
 ghost use Rattle.std.specs.Prelude.{◌≡◌, ◌≤◌, length};
 
 use asked::Task;
-use libc::{STDIN_FILENO, STDOUT_FILENO};
+use input::host;
+use input::host::{Opened, Sent, Word};
 use limits::Answer;
+use std::fs::File;
 
 // A work buffer of bytes of the first pair.
 fn work_room() -> [u8; 32769]
@@ -60,55 +62,47 @@ pub fn answer_small(task: Task, text: &[u8], out: &mut [u8], orig: &mut [u8]) ->
 }
 
 // Writes `refused`, a number and a place as one line, and returns whether it went out.
-fn put_refused(number: u8, place: usize) -> bool {
-    io::write_all(STDOUT_FILENO, b"refused ")
-        & io::print_decimal(STDOUT_FILENO, number as u64)
-        & io::write_all(STDOUT_FILENO, b" ")
-        & io::print_decimal(STDOUT_FILENO, place as u64)
-        & io::write_all(STDOUT_FILENO, b"\n")
+fn put_refused(rt: &HostRuntime, number: u8, place: usize) -> Sent {
+    host::write(rt, b"refused ")
+        & host::write_number(rt, number as u64)
+        & host::write(rt, b" ")
+        & host::write_number(rt, place as u64)
+        & host::write(rt, b"\n")
 }
 
 // Writes what came of a text to standard output, and returns whether it went out.
-fn put_answer(answer: Answer, out: &[u8]) -> bool {
+fn put_answer(rt: &HostRuntime, answer: Answer, out: &[u8]) -> Sent {
     let number = limits::number_of(answer);
     if number == 0 {
-        return io::write_all(STDOUT_FILENO, lines::cut(out, 0, limits::length_of(answer)));
+        return host::write(rt, lines::cut(out, 0, limits::length_of(answer)));
     }
-    put_refused(number, limits::place_of(answer))
+    put_refused(rt, number, limits::place_of(answer))
 }
 
 // Writes records to the file of a name, and says why where they did not go there whole.
-fn write_records(program: &[u8], name: &[u8], records: &[u8]) {
-    let fd = os::open_overwrite(name);
-    if fd < 0 {
-        tell::fail_with(program, b"write ", name);
-        return;
-    }
-    if !io::write_all(fd, records) {
-        tell::fail_with(program, b"write ", name);
-        return;
-    }
-    if libc::close(fd) != 0 {
-        tell::fail_with(program, b"write ", name);
+fn write_records(rt: &HostRuntime, program: &[u8], name: &[u8], records: &[u8]) {
+    match host::write_file(rt, name, records) {
+        Sent::Whole => {}
+        Sent::Failed(why) => tell::fail_with(rt, program, b"write ", name, why),
     }
 }
 
 // Writes records to the file that argument `at` names, unless it is 0.
-fn put_records(program: &[u8], at: usize, records: &[u8]) {
+fn put_records(rt: &HostRuntime, program: &[u8], at: usize, records: &[u8]) {
     if at == 0 {
         return;
     }
-    let mut name = io::buffer();
-    let n = os::arg(at, &mut name);
-    if os::errno() != 0 {
-        tell::fail(program, b"take the name of the file for the records");
-        return;
+    let mut name = host::buffer();
+    match host::take_arg(rt, at, &mut name) {
+        Word::Is(n) => write_records(rt, program, lines::cut(&name, 0, n), records),
+        Word::Failed(why) => {
+            tell::fail(rt, program, b"take the name of the file for the records", why);
+        }
     }
-    write_records(program, &name[..n], records);
 }
 
 // Says what came of a text. A refusal is told on standard error too: a tidy text may read like one, and a person wants to know more.
-pub fn report(
+pub fn report(rt: &HostRuntime, 
     program: &[u8],
     task: Task,
     answer: Answer,
@@ -117,16 +111,19 @@ pub fn report(
     out: &[u8],
     records: &[u8],
 ) {
-    if !put_answer(answer, out) {
-        tell::fail(program, b"write standard output");
-        return;
+    match put_answer(rt, answer, out) {
+        Sent::Whole => {}
+        Sent::Failed(why) => {
+            tell::fail(rt, program, b"write standard output", why);
+            return;
+        }
     }
     let number = limits::number_of(answer);
     if number != 0 {
-        tell::explain(program, number, limits::place_of(answer), text, name);
+        tell::explain(rt, program, number, limits::place_of(answer), text, name);
         return;
     }
-    put_records(program, task.records, records);
+    put_records(rt, program, task.records, records);
 }
 
 // How many bytes the records of `n` lines are, in a form: a text that is taken has at most 100,000.
@@ -140,16 +137,17 @@ pub fn records_size(form: origins::Form, n: usize) -> usize {
     }
 }
 
-// Where a listing is read: from a descriptor, with a name of so many bytes, or nowhere, which is said.
-#[derive(Clone, Copy)]
+// Where a listing is read: from standard input or a file, with a name of so many bytes, or nowhere, which is said.
+#[derive(Drop)]
 pub enum Source {
+    Standard(usize),
     From(Named),
     Nowhere,
 }
 
-#[derive(Clone, Copy)]
+#[derive(Drop)]
 pub struct Named {
-    pub fd: i32,
+    pub file: File,
     pub size: usize,
 }
 
@@ -158,29 +156,40 @@ fn standard(name: &mut [u8]) -> Source
     requires { 14 ≤ length name.old }
 {
     let size = lines::put(name, 0, b"standard input");
-    let fd = STDIN_FILENO;
-    Source::From(Named { fd, size })
+    Source::Standard(size)
 }
 
 // Opens what argument `at` names, standard input where there is none or it is `-`, and stores its name.
-pub fn open_named(program: &[u8], at: usize, name: &mut [u8]) -> Source
+pub fn open_named(rt: &HostRuntime, program: &[u8], at: usize, name: &mut [u8]) -> Source
     requires { 14 ≤ length name.old }
 {
-    if os::arg_count() <= at {
+    if host::arg_count(rt) <= at {
         return standard(name);
     }
-    let size = os::arg(at, name);
-    if os::errno() != 0 {
-        tell::fail(program, b"take the file's name");
-        return Source::Nowhere;
+    match host::take_arg(rt, at, name) {
+        Word::Is(size) => {
+            if lines::same(lines::cut(name, 0, size), b"-") {
+                return standard(name);
+            }
+            open_file(rt, program, lines::cut(name, 0, size))
+        }
+        Word::Failed(why) => {
+            tell::fail(rt, program, b"take the file's name", why);
+            Source::Nowhere
+        }
     }
-    if lines::same(lines::cut(name, 0, size), b"-") {
-        return standard(name);
+}
+
+// Opens the file of a name.
+fn open_file(rt: &HostRuntime, program: &[u8], name: &[u8]) -> Source {
+    match host::open(rt, name) {
+        Opened::Is(file) => {
+            let size = name.len();
+            Source::From(Named { file, size })
+        }
+        Opened::Failed(why) => {
+            tell::fail_with(rt, program, b"open ", name, why);
+            Source::Nowhere
+        }
     }
-    let fd = os::open_read(lines::cut(name, 0, size));
-    if fd < 0 {
-        tell::fail_with(program, b"open ", lines::cut(name, 0, size));
-        return Source::Nowhere;
-    }
-    Source::From(Named { fd, size })
 }

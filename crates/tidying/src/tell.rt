@@ -1,41 +1,41 @@
 // What a program says on standard error: for a refusal its number, what it means, where it is and what to do, each on a line with the program's name in front.
 // A file's name stands behind fixed words, so that no name makes one kind of message look like another.
-use libc::STDERR_FILENO;
+use input::host;
 
-fn say(text: &[u8]) {
-    io::write_all(STDERR_FILENO, text);
+fn say(rt: &HostRuntime, text: &[u8]) {
+    host::say(rt, text);
 }
 
-fn say_number(n: usize) {
-    io::print_decimal(STDERR_FILENO, n as u64);
+fn say_number(rt: &HostRuntime, n: usize) {
+    host::say_number(rt, n as u64);
 }
 
 // Says a line of a program's own.
-pub fn say_line(program: &[u8], text: &[u8]) {
-    say(program);
-    say(text);
+pub fn say_line(rt: &HostRuntime, program: &[u8], text: &[u8]) {
+    say(rt, program);
+    say(rt, text);
 }
 
 // Says a text, an argument and the end of the line.
-pub fn say_word(program: &[u8], text: &[u8], at: usize) {
-    let mut word = io::buffer();
-    let n = os::arg(at, &mut word);
-    say_line(program, text);
-    say(&word[..n]);
-    say(b"\n");
+pub fn say_word(rt: &HostRuntime, program: &[u8], text: &[u8], at: usize) {
+    let mut word = host::buffer();
+    let n = host::arg(rt, at, &mut word);
+    say_line(rt, program, text);
+    say(rt, &word[..n]);
+    say(rt, b"\n");
 }
 
 // Says what a program cannot do, and the system's reason.
-pub fn fail(program: &[u8], what: &[u8]) {
-    say_line(program, b": cannot ");
-    os::fail(what);
+pub fn fail(rt: &HostRuntime, program: &[u8], what: &[u8], why: i32) {
+    say_line(rt, program, b": cannot ");
+    host::say_failed(rt, what, why);
 }
 
 // Says what a program cannot do to a file, and the system's reason.
-pub fn fail_with(program: &[u8], verb: &[u8], name: &[u8]) {
-    say_line(program, b": cannot ");
-    say(verb);
-    os::fail(name);
+pub fn fail_with(rt: &HostRuntime, program: &[u8], verb: &[u8], name: &[u8], why: i32) {
+    say_line(rt, program, b": cannot ");
+    say(rt, verb);
+    host::say_failed(rt, name, why);
 }
 
 // A place from 0 as it is counted from 1.
@@ -61,131 +61,131 @@ fn crowded_at(text: &[u8], n: usize) -> usize {
 }
 
 // Says where a byte stands: its line and its place in that line, from 1, and its place in the text, from 0.
-fn say_where(program: &[u8], what: &[u8], text: &[u8], at: usize) {
+fn say_where(rt: &HostRuntime, program: &[u8], what: &[u8], text: &[u8], at: usize) {
     let line = lines::count_byte(lines::cut(text, 0, at), 10);
     let start = lines::line_start(text, at);
-    say_line(program, b": ");
-    say(what);
-    say(b" is byte ");
-    say_number(from_one(lines::cut(text, start, at).len()));
-    say(b" of line ");
-    say_number(from_one(line));
-    say(b" (offset ");
-    say_number(at);
-    say(b")\n");
+    say_line(rt, program, b": ");
+    say(rt, what);
+    say(rt, b" is byte ");
+    say_number(rt, from_one(lines::cut(text, start, at).len()));
+    say(rt, b" of line ");
+    say_number(rt, from_one(line));
+    say(rt, b" (offset ");
+    say_number(rt, at);
+    say(rt, b")\n");
 }
 
-fn say_whole(program: &[u8]) {
-    say_line(
+fn say_whole(rt: &HostRuntime, program: &[u8]) {
+    say_line(rt, 
         program,
         b": optlarge takes up to 1,048,576 bytes and 100,000 lines; for more ask for smaller scripts, since a listing that is cut in parts may lose lines that the whole keeps\n",
     );
 }
 
-fn explain_pass(program: &[u8]) {
-    say(b"there is no pass of that number\n");
-    say_line(program, b": the passes have the numbers 1 to 6\n");
+fn explain_pass(rt: &HostRuntime, program: &[u8]) {
+    say(rt, b"there is no pass of that number\n");
+    say_line(rt, program, b": the passes have the numbers 1 to 6\n");
 }
 
-fn explain_mode(program: &[u8]) {
-    say(b"there is no mode of that number\n");
-    say_line(
+fn explain_mode(rt: &HostRuntime, program: &[u8]) {
+    say(rt, b"there is no mode of that number\n");
+    say_line(rt, 
         program,
         b": the modes have the numbers 0, plain, 1, strict, 2, joined, and 3, both\n",
     );
 }
 
 // The place of this refusal is how many bytes are taken.
-fn explain_long(program: &[u8], text: &[u8], place: usize) {
-    say(b"it is longer than ");
-    say_number(place);
-    say(b" bytes\n");
-    say_where(program, b"the first byte too many", text, place);
-    say_whole(program);
+fn explain_long(rt: &HostRuntime, program: &[u8], text: &[u8], place: usize) {
+    say(rt, b"it is longer than ");
+    say_number(rt, place);
+    say(rt, b" bytes\n");
+    say_where(rt, program, b"the first byte too many", text, place);
+    say_whole(rt, program);
 }
 
-fn explain_cut(program: &[u8], text: &[u8], place: usize) {
-    say(b"it ends within a character\n");
-    say_where(program, b"the first byte of that character", text, place);
-    say_line(program, b": the file was cut there: ask for it again\n");
+fn explain_cut(rt: &HostRuntime, program: &[u8], text: &[u8], place: usize) {
+    say(rt, b"it ends within a character\n");
+    say_where(rt, program, b"the first byte of that character", text, place);
+    say_line(rt, program, b": the file was cut there: ask for it again\n");
 }
 
 // Says what is wrong with bytes that no cut explains.
-fn explain_damage(program: &[u8], what: &[u8], text: &[u8], place: usize) {
-    say(what);
-    say_where(program, b"the first bad byte", text, place);
-    say_line(
+fn explain_damage(rt: &HostRuntime, program: &[u8], what: &[u8], text: &[u8], place: usize) {
+    say(rt, what);
+    say_where(rt, program, b"the first bad byte", text, place);
+    say_line(rt, 
         program,
         b": the file is damaged there, or is not in UTF-8: ask for a whole one, or convert it, as iconv does\n",
     );
 }
 
 // The place of this refusal is how many lines are taken.
-fn explain_lines(program: &[u8], text: &[u8], place: usize) {
-    say(b"it has more than ");
-    say_number(place);
-    say(b" lines\n");
-    say_where(
+fn explain_lines(rt: &HostRuntime, program: &[u8], text: &[u8], place: usize) {
+    say(rt, b"it has more than ");
+    say_number(rt, place);
+    say(rt, b" lines\n");
+    say_where(rt, 
         program,
         b"the first byte too many",
         text,
         behind(text, 0, 10, place),
     );
-    say_whole(program);
+    say_whole(rt, program);
 }
 
-fn explain_crowded(program: &[u8], text: &[u8], place: usize) {
-    say(b"a line has more than 64 opening brackets [\n");
-    say_where(
+fn explain_crowded(rt: &HostRuntime, program: &[u8], text: &[u8], place: usize) {
+    say(rt, b"a line has more than 64 opening brackets [\n");
+    say_where(rt, 
         program,
         b"the first bracket too many",
         text,
         crowded_at(text, place),
     );
-    say_line(program, b": break that line up, or take it out\n");
+    say_line(rt, program, b": break that line up, or take it out\n");
 }
 
 // The place of this refusal is how many lines the form has numbers for.
-fn explain_wide(program: &[u8], place: usize) {
-    say(b"records of the form OL have numbers for ");
-    say_number(place);
-    say(b" lines, and it has more\n");
-    say_line(program, b": ask for the form OM\n");
+fn explain_wide(rt: &HostRuntime, program: &[u8], place: usize) {
+    say(rt, b"records of the form OL have numbers for ");
+    say_number(rt, place);
+    say(rt, b" lines, and it has more\n");
+    say_line(rt, program, b": ask for the form OM\n");
 }
 
 // The numbers 3, 7 and 8 are of short buffers, and those of the programs are of the stated sizes.
-fn explain_other() {
-    say(b"this program lends too little room, which is a fault of its own\n");
+fn explain_other(rt: &HostRuntime) {
+    say(rt, b"this program lends too little room, which is a fault of its own\n");
 }
 
 // Tells a person of a refusal.
-pub fn explain(program: &[u8], number: u8, place: usize, text: &[u8], name: &[u8]) {
-    say_line(program, b": refused ");
-    say_number(number as usize);
-    say(b" in ");
-    say(name);
-    say(b": ");
+pub fn explain(rt: &HostRuntime, program: &[u8], number: u8, place: usize, text: &[u8], name: &[u8]) {
+    say_line(rt, program, b": refused ");
+    say_number(rt, number as usize);
+    say(rt, b" in ");
+    say(rt, name);
+    say(rt, b": ");
     match number {
-        1 => explain_pass(program),
-        2 => explain_long(program, text, place),
-        4 => explain_damage(program, b"it is not UTF-8\n", text, place),
-        5 => explain_lines(program, text, place),
-        6 => explain_crowded(program, text, place),
-        9 => explain_cut(program, text, place),
-        10 => explain_damage(
+        1 => explain_pass(rt, program),
+        2 => explain_long(rt, program, text, place),
+        4 => explain_damage(rt, program, b"it is not UTF-8\n", text, place),
+        5 => explain_lines(rt, program, text, place),
+        6 => explain_crowded(rt, program, text, place),
+        9 => explain_cut(rt, program, text, place),
+        10 => explain_damage(rt, 
             program,
             b"it has an overlong form, which UTF-8 has not\n",
             text,
             place,
         ),
-        11 => explain_damage(
+        11 => explain_damage(rt, 
             program,
             b"it has a surrogate or a value above U+10FFFF, which UTF-8 has not\n",
             text,
             place,
         ),
-        12 => explain_mode(program),
-        13 => explain_wide(program, place),
-        _ => explain_other(),
+        12 => explain_mode(rt, program),
+        13 => explain_wide(rt, program, place),
+        _ => explain_other(rt),
     }
 }

@@ -8,7 +8,8 @@ mod wire;
 
 ghost use Rattle.std.specs.Prelude.{◌≡◌, length};
 
-use libc::{STDIN_FILENO, STDOUT_FILENO};
+use input::host;
+use input::host::Opened;
 use reply::Turn;
 
 // Room for an answer.
@@ -19,58 +20,62 @@ fn room() -> [u8; 262144]
 }
 
 // Writes an answer of `n` bytes, or that there is none.
-fn write_answer(out: &[u8], n: usize) -> bool {
+fn write_answer(rt: &HostRuntime, out: &[u8], n: usize) -> bool {
     let mut h = [255u8; 4];
     if out.len() < n {
-        return io::write_all(STDOUT_FILENO, &h);
+        return host::is_whole(host::write(rt, &h));
     }
     answers::say::say_four(&mut h, 0, n);
-    if io::write_all(STDOUT_FILENO, &h) {
-        return io::write_all(STDOUT_FILENO, lines::cut(out, 0, n));
+    if host::is_whole(host::write(rt, &h)) {
+        return host::is_whole(host::write(rt, lines::cut(out, 0, n)));
     }
     false
 }
 
 // Reads one request and writes its answer, and returns whether to go on.
-fn serve_one(a: &mut [u8], b: &mut [u8], out: &mut [u8]) -> bool {
-    match reply::reply_one(STDIN_FILENO, a, b, out) {
-        Turn::Answer(_, n) => write_answer(out, n),
+fn serve_one(rt: &HostRuntime, a: &mut [u8], b: &mut [u8], out: &mut [u8]) -> bool {
+    let mut from = rt.stdin();
+    match reply::reply_one(&mut from, a, b, out) {
+        Turn::Answer(_, n) => write_answer(rt, out, n),
         Turn::Ended => false,
         Turn::Cut => false,
     }
 }
 
 // Answers until the input ends. No run uses up the turns.
-fn serve(a: &mut [u8], b: &mut [u8], out: &mut [u8]) {
+fn serve(rt: &HostRuntime, a: &mut [u8], b: &mut [u8], out: &mut [u8]) {
     let mut turns = u64::MAX;
-    while turns > 0 && serve_one(a, b, out) {
+    while turns > 0 && serve_one(rt, a, b, out) {
         turns -= 1;
     }
 }
 
 // Replays the file that the first argument names.
-fn replay_file(a: &mut [u8], b: &mut [u8], out: &mut [u8]) {
-    let mut path = io::buffer();
-    let n = os::arg(1, &mut path);
-    let fd = os::open_read(&path[..n]);
-    if fd < 0 {
-        io::write_all(STDOUT_FILENO, b"cannot open ");
-        io::write_all(STDOUT_FILENO, &path[..n]);
-        io::write_all(STDOUT_FILENO, b"\n");
-        return;
+fn replay_file(rt: &HostRuntime, a: &mut [u8], b: &mut [u8], out: &mut [u8]) {
+    let mut path = host::buffer();
+    let n = host::arg(rt, 1, &mut path);
+    match host::open(rt, &path[..n]) {
+        Opened::Is(file) => {
+            let mut file = file;
+            let t = replay::replay(rt, &mut file, a, b, out);
+            replay::report(rt, t);
+        }
+        Opened::Failed(_) => {
+            host::write(rt, b"cannot open ");
+            host::write(rt, &path[..n]);
+            host::write(rt, b"\n");
+        }
     }
-    let t = replay::replay(fd, a, b, out);
-    replay::report(t);
-    libc::close(fd);
 }
 
-fn main() {
-    let mut a = io::large_buffer();
-    let mut b = io::large_buffer();
+fn main(rt: HostRuntime) {
+    let rt = &rt;
+    let mut a = host::large_buffer();
+    let mut b = host::large_buffer();
     let mut out = room();
-    if os::arg_count() < 2 {
-        serve(&mut a, &mut b, &mut out);
+    if host::arg_count(rt) < 2 {
+        serve(rt, &mut a, &mut b, &mut out);
         return;
     }
-    replay_file(&mut a, &mut b, &mut out);
+    replay_file(rt, &mut a, &mut b, &mut out);
 }

@@ -2,7 +2,8 @@
 use crate::reply::Turn;
 use crate::wire::Text;
 use crate::{reply, wire};
-use libc::STDOUT_FILENO;
+use input::host;
+use std::fs::File;
 
 // How many requests were answered, how many of these answers agreed, how many requests have none, whether there may be more requests,
 // and whether the file ended within one.
@@ -19,20 +20,20 @@ pub struct Tally {
 const SHOWN: u64 = 5;
 
 // Writes a text, a number and a text.
-fn say_count(before: &[u8], n: u64, after: &[u8]) {
-    io::write_all(STDOUT_FILENO, before);
-    io::print_decimal(STDOUT_FILENO, n);
-    io::write_all(STDOUT_FILENO, after);
+fn say_count(rt: &HostRuntime, before: &[u8], n: u64, after: &[u8]) {
+    host::write(rt, before);
+    host::write_number(rt, n);
+    host::write(rt, after);
 }
 
 // Says that the next request differs, unless enough were shown. Requests count from 0.
-fn differs(t: Tally, function: u8) {
+fn differs(rt: &HostRuntime, t: Tally, function: u8) {
     if SHOWN <= std::num::wrapping_sub_u64(t.asked, t.agreed) {
         return;
     }
     let k = std::num::wrapping_add_u64(t.asked, t.passed);
-    say_count(b"differs: request ", k, b" function ");
-    say_count(b"", function as u64, b"\n");
+    say_count(rt, b"differs: request ", k, b" function ");
+    say_count(rt, b"", function as u64, b"\n");
 }
 
 // One answer more, that agrees or differs.
@@ -69,37 +70,37 @@ fn ended(t: Tally, cut: bool) -> Tally {
 }
 
 // Compares our answer of `n` bytes with the original's of `m`.
-fn compare(t: Tally, function: u8, ours: &[u8], n: usize, theirs: &[u8], m: usize) -> Tally {
+fn compare(rt: &HostRuntime, t: Tally, function: u8, ours: &[u8], n: usize, theirs: &[u8], m: usize) -> Tally {
     if ours.len() < n {
         return passed(t);
     }
     let agrees = (m <= theirs.len())
         & lines::same(lines::cut(ours, 0, n), lines::cut(theirs, 0, m));
     if !agrees {
-        differs(t, function);
+        differs(rt, t, function);
     }
     counted(t, agrees)
 }
 
 // Reads the original's answer and compares the `n` bytes of ours with it.
-fn judge(fd: i32, t: Tally, function: u8, out: &[u8], n: usize, want: &mut [u8]) -> Tally {
-    match wire::read_text(fd, want) {
-        Text::Whole(m) => compare(t, function, out, n, want, m),
+fn judge(rt: &HostRuntime, from: &mut File, t: Tally, function: u8, out: &[u8], n: usize, want: &mut [u8]) -> Tally {
+    match wire::read_text(from, want) {
+        Text::Whole(m) => compare(rt, t, function, out, n, want, m),
         Text::Cut => ended(t, true),
     }
 }
 
 // Replays one request. The original's answer is read into the buffer of the first text, which is no longer needed then.
-fn replay_one(fd: i32, t: Tally, a: &mut [u8], b: &mut [u8], out: &mut [u8]) -> Tally {
-    match reply::reply_one(fd, a, b, out) {
-        Turn::Answer(f, n) => judge(fd, t, f, out, n, a),
+fn replay_one(rt: &HostRuntime, from: &mut File, t: Tally, a: &mut [u8], b: &mut [u8], out: &mut [u8]) -> Tally {
+    match reply::reply_one(from, a, b, out) {
+        Turn::Answer(f, n) => judge(rt, from, t, f, out, n, a),
         Turn::Ended => ended(t, false),
         Turn::Cut => ended(t, true),
     }
 }
 
 // Replays a file. No run uses up the turns.
-pub fn replay(fd: i32, a: &mut [u8], b: &mut [u8], out: &mut [u8]) -> Tally {
+pub fn replay(rt: &HostRuntime, from: &mut File, a: &mut [u8], b: &mut [u8], out: &mut [u8]) -> Tally {
     let mut t = Tally {
         asked: 0,
         agreed: 0,
@@ -109,16 +110,16 @@ pub fn replay(fd: i32, a: &mut [u8], b: &mut [u8], out: &mut [u8]) -> Tally {
     };
     let mut turns = u64::MAX;
     while turns > 0 && t.more {
-        t = replay_one(fd, t, a, b, out);
+        t = replay_one(rt, from, t, a, b, out);
         turns -= 1;
     }
     t
 }
 
 // Says how a replay came out.
-pub fn report(t: Tally) {
+pub fn report(rt: &HostRuntime, t: Tally) {
     if t.cut {
-        say_count(
+        say_count(rt, 
             b"the file is cut after ",
             std::num::wrapping_add_u64(t.asked, t.passed),
             b" requests\n",
@@ -126,8 +127,8 @@ pub fn report(t: Tally) {
         return;
     }
     if 0 < t.passed {
-        say_count(b"not answered: ", t.passed, b"\n");
+        say_count(rt, b"not answered: ", t.passed, b"\n");
     }
-    say_count(b"", t.agreed, b" of ");
-    say_count(b"", t.asked, b" agree\n");
+    say_count(rt, b"", t.agreed, b" of ");
+    say_count(rt, b"", t.asked, b" agree\n");
 }

@@ -1,6 +1,7 @@
 // One turn: a request is read and answered.
 use crate::wire;
 use crate::wire::{Asked, Request};
+use std::io::Read;
 
 // A function and the length of its answer; the end of the input where a request could begin; its end within one.
 #[derive(Clone, Copy)]
@@ -30,8 +31,8 @@ fn reply(q: Request, a: &[u8], b: &[u8], out: &mut [u8]) -> usize {
 }
 
 // Reads a request and writes its answer.
-pub fn reply_one(fd: i32, a: &mut [u8], b: &mut [u8], out: &mut [u8]) -> Turn {
-    match wire::read_request(fd, a, b) {
+pub fn reply_one<R: Read>(from: &mut R, a: &mut [u8], b: &mut [u8], out: &mut [u8]) -> Turn {
+    match wire::read_request(from, a, b) {
         Asked::Whole(q) => {
             let n = reply(q, a, b, out);
             Turn::Answer(q.function, n)

@@ -1,5 +1,6 @@
 // Requests for single functions.
-use input::wire::{four, read_bytes};
+use input::wire::{four, read_bytes, read_full};
+use std::io::Read;
 
 // A request: the function, its number, and how long its two texts are.
 #[derive(Clone, Copy)]
@@ -26,25 +27,25 @@ pub enum Text {
 }
 
 // Reads a text of `n` bytes.
-fn read_known(fd: i32, n: usize, buf: &mut [u8]) -> Text {
-    if read_bytes(fd, n, buf) {
+fn read_known<R: Read>(from: &mut R, n: usize, buf: &mut [u8]) -> Text {
+    if read_bytes(from, n, buf) {
         return Text::Whole(n);
     }
     Text::Cut
 }
 
 // Reads a length and a text.
-pub fn read_text(fd: i32, buf: &mut [u8]) -> Text {
+pub fn read_text<R: Read>(from: &mut R, buf: &mut [u8]) -> Text {
     let mut h = [0u8; 4];
-    if io::read_full(fd, &mut h) != 4 {
+    if read_full(from, &mut h) != 4 {
         return Text::Cut;
     }
-    read_known(fd, four(h[0], h[1], h[2], h[3]), buf)
+    read_known(from, four(h[0], h[1], h[2], h[3]), buf)
 }
 
 // Reads the second text of a request, whose first has the length `a`.
-fn read_second(fd: i32, function: u8, number: u64, a: usize, buf: &mut [u8]) -> Asked {
-    match read_text(fd, buf) {
+fn read_second<R: Read>(from: &mut R, function: u8, number: u64, a: usize, buf: &mut [u8]) -> Asked {
+    match read_text(from, buf) {
         Text::Whole(b) => Asked::Whole(Request {
             function,
             number,
@@ -56,9 +57,9 @@ fn read_second(fd: i32, function: u8, number: u64, a: usize, buf: &mut [u8]) -> 
 }
 
 // Reads a request.
-pub fn read_request(fd: i32, a: &mut [u8], b: &mut [u8]) -> Asked {
+pub fn read_request<R: Read>(from: &mut R, a: &mut [u8], b: &mut [u8]) -> Asked {
     let mut h = [0u8; 13];
-    let got = io::read_full(fd, &mut h);
+    let got = read_full(from, &mut h);
     if got == 0 {
         return Asked::Ended;
     }
@@ -66,8 +67,8 @@ pub fn read_request(fd: i32, a: &mut [u8], b: &mut [u8]) -> Asked {
         return Asked::Cut;
     }
     let number = (four(h[1], h[2], h[3], h[4]) | (four(h[5], h[6], h[7], h[8]) << 32)) as u64;
-    match read_known(fd, four(h[9], h[10], h[11], h[12]), a) {
-        Text::Whole(n) => read_second(fd, h[0], number, n, b),
+    match read_known(from, four(h[9], h[10], h[11], h[12]), a) {
+        Text::Whole(n) => read_second(from, h[0], number, n, b),
         Text::Cut => Asked::Cut,
     }
 }
