@@ -84,12 +84,7 @@ fn answer(rt: &HostRuntime, short: usize, raw: &[u8], other: &[u8]) -> bool {
         & input::lent::as_fixed(&b, pruned::BYTES, ran)
         & input::lent::as_fixed(&c, pruned::BYTES, ran)
         & input::lent::as_fixed(&live, pruned::PLACES, ran);
-    wire::write_answer(
-        rt,
-        pruned::number_of(got),
-        memory,
-        pruned::place_of(got),
-    )
+    wire::write_answer(rt, pruned::number_of(got), memory, pruned::place_of(got))
 }
 
 // Reads the two texts of a request and answers it, and returns whether to go on.

@@ -9,11 +9,10 @@ mod tell;
 
 ghost use Rattle.std.specs.Prelude.{◌≡◌, length};
 
-use input::Got;
-use std::fs::File;
-use input::host;
 use input::host::{Opened, Sent, Word};
+use input::{Got, host};
 use pruned::Judged;
+use std::fs::File;
 
 // Room for a text: one byte more than is taken, so that a longer text is seen.
 fn text_room() -> [u8; 16385]
@@ -105,7 +104,9 @@ fn check_against(rt: &HostRuntime, raw: &[u8]) {
 fn main(rt: HostRuntime) {
     let rt = &rt;
     if host::arg_count(rt) != 3 {
-        host::say(rt, b"optcheck: it wants two files, the raw listing and the pruned one\n",
+        host::say(
+            rt,
+            b"optcheck: it wants two files, the raw listing and the pruned one\n",
         );
         return;
     }

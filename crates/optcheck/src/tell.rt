@@ -82,7 +82,10 @@ fn explain_astray(rt: &HostRuntime, place: usize, raw: &[u8], other: &[u8]) {
     if at < other.len() {
         say_line(rt, b"pruned", other, at);
     } else {
-        say(rt, b"optcheck: the pruned listing ends, and the raw one needs more\n");
+        say(
+            rt,
+            b"optcheck: the pruned listing ends, and the raw one needs more\n",
+        );
     }
     let p = lines::cut(other, at, lines::find_byte(other, at, 10));
     match crate::against::raw_line(raw, lines::cut(other, 0, at), place) {
@@ -106,7 +109,10 @@ fn explain_listing(rt: &HostRuntime, number: u8, place: usize) {
             say_number(rt, from_one(place));
             say(rt, b"\n");
         }
-        _ => say(rt, b" was lent too little room, which is a fault of this program\n"),
+        _ => say(
+            rt,
+            b" was lent too little room, which is a fault of this program\n",
+        ),
     }
 }
 

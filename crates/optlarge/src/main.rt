@@ -154,7 +154,8 @@ fn tidy(rt: &HostRuntime, task: Task, text: &[u8], name: &[u8]) {
     let mut orig = record_room();
     let answer = answer_to(task, form, small, text, &mut out, &mut orig);
     let size = tidying::records_size(form, lines::count_lines(text));
-    tidying::report(rt, 
+    tidying::report(
+        rt,
         b"optlarge",
         task,
         answer,

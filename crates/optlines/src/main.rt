@@ -37,7 +37,8 @@ fn tidy(rt: &HostRuntime, task: Task, text: &[u8], name: &[u8]) {
     let mut orig = record_room();
     let answer = tidying::answer_small(task, text, &mut out, &mut orig);
     let size = tidying::records_size(origins::Form::Ol, lines::count_lines(text));
-    tidying::report(rt, 
+    tidying::report(
+        rt,
         b"optlines",
         task,
         answer,

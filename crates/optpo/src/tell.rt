@@ -28,7 +28,10 @@ fn say_where(rt: &HostRuntime, text: &[u8], at: usize) {
 }
 
 fn explain_name(rt: &HostRuntime, place: usize) {
-    say(rt, b"the file's name is empty, or holds white space or a byte that is not UTF-8\n");
+    say(
+        rt,
+        b"the file's name is empty, or holds white space or a byte that is not UTF-8\n",
+    );
     say(rt, b"optpo: at byte ");
     say_number(rt, from_one(place));
     say(rt, b" of the name\noptpo: give a name of one word\n");
@@ -37,11 +40,17 @@ fn explain_name(rt: &HostRuntime, place: usize) {
 fn explain_bytes(rt: &HostRuntime, place: usize, text: &[u8]) {
     say(rt, b"the listing is not UTF-8\n");
     say_where(rt, text, place);
-    say(rt, b"optpo: mend the byte there, or save the listing as UTF-8\n");
+    say(
+        rt,
+        b"optpo: mend the byte there, or save the listing as UTF-8\n",
+    );
 }
 
 fn explain_escape(rt: &HostRuntime, place: usize, text: &[u8]) {
-    say(rt, b"a literal holds an escape other than \\n, \\t, \\\", \\' and \\\\\n");
+    say(
+        rt,
+        b"a literal holds an escape other than \\n, \\t, \\\", \\' and \\\\\n",
+    );
     say_where(rt, text, place);
     say(rt, b"optpo: put the character itself in its place\n");
 }
@@ -55,13 +64,20 @@ fn explain_open(rt: &HostRuntime, place: usize, text: &[u8]) {
 fn explain_length(rt: &HostRuntime, place: usize) {
     say(rt, b"what there is to write is too long\noptpo: it has ");
     say_number(rt, place);
-    say(rt, b" bytes, and 262144 are written at most\noptpo: give a part of the listing\n");
+    say(
+        rt,
+        b" bytes, and 262144 are written at most\noptpo: give a part of the listing\n",
+    );
 }
 
 fn explain_line(rt: &HostRuntime, place: usize) {
-    say(rt, b"a line is missing, or is not as optpo writes it\noptpo: at line ");
+    say(
+        rt,
+        b"a line is missing, or is not as optpo writes it\noptpo: at line ",
+    );
     say_number(rt, from_one(place));
-    say(rt, 
+    say(
+        rt,
         b"\noptpo: change only what stands between the quotes of msgstr, and keep each string on its line (--no-wrap)\n",
     );
 }

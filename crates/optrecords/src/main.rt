@@ -72,7 +72,9 @@ fn take_input(rt: &HostRuntime, g: Form) {
     match input::read_input(&mut from, &mut file) {
         input::Got::Whole(n) => {
             if n > MOST {
-                host::say(rt, b"optrecords: cannot take more than 1100000 bytes of standard input\n",
+                host::say(
+                    rt,
+                    b"optrecords: cannot take more than 1100000 bytes of standard input\n",
                 );
                 return;
             }
@@ -104,7 +106,9 @@ fn take_form(rt: &HostRuntime, at: usize)
         take_input(rt, Form::Om);
         return;
     }
-    host::say(rt, b"optrecords: give one argument, the form to write: OL or OM\n",
+    host::say(
+        rt,
+        b"optrecords: give one argument, the form to write: OL or OM\n",
     );
 }
 

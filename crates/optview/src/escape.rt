@@ -3,8 +3,8 @@
 ghost use Rattle.std.specs.Prelude.{◌≡◌, cond, not, ◌&&◌, eqb, get_or};
 ghost use Rattle.optview.specs.Inner.Shown.{unseen_one, unseen_narrow, unseen_wide, unseen_len, is_sign, code_of};
 
-use input::host::Sent;
 use crate::put;
+use input::host::Sent;
 
 // Whether a byte is a control, but a TAB.
 fn unseen_one(a: u8) -> bool

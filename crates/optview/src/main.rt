@@ -89,7 +89,8 @@ fn show(rt: &HostRuntime, task: Task, text: &[u8], name: &[u8]) {
 }
 
 // Shows a listing with its result and its records, once the reader of records has linked the lines.
-fn show_linked(rt: &HostRuntime, 
+fn show_linked(
+    rt: &HostRuntime,
     bare: bool,
     text: &[u8],
     tidy: &[u8],
@@ -106,14 +107,17 @@ fn show_linked(rt: &HostRuntime,
         tell::bad_records(rt, number, reader::place_of(got));
         return;
     }
-    match put_all(rt, bare, text, tidy, records, gone, held, &first, &next, name) {
+    match put_all(
+        rt, bare, text, tidy, records, gone, held, &first, &next, name,
+    ) {
         Sent::Whole => {}
         Sent::Failed(why) => tell::cannot_write(rt, why),
     }
 }
 
 // Writes what is asked for, and returns whether it went out.
-fn put_all(rt: &HostRuntime, 
+fn put_all(
+    rt: &HostRuntime,
     bare: bool,
     text: &[u8],
     tidy: &[u8],

@@ -1,7 +1,7 @@
 // A listing and what it became as a page in HTML, side by side. Which lines belong together is what the reader of records answers. Each function returns whether
 // it went out.
-use input::host::Sent;
 use crate::{chain, escape, parts, plain, put, why};
+use input::host::Sent;
 use origins::{Form, Went};
 
 // The class and the sign of a fate.
@@ -25,7 +25,8 @@ fn put_to(rt: &HostRuntime, w: Went) -> Sent {
 }
 
 // What is said below raw line `k` where it did not stay as it was. Where it changed, the chain from `at` on has the raw lines behind what it became.
-fn put_note(rt: &HostRuntime, 
+fn put_note(
+    rt: &HostRuntime,
     k: usize,
     w: Went,
     line: &[u8],
@@ -68,7 +69,8 @@ fn put_code(rt: &HostRuntime, line: &[u8]) -> Sent {
 }
 
 // Writes raw line `k`.
-fn put_raw_line(rt: &HostRuntime, 
+fn put_raw_line(
+    rt: &HostRuntime,
     k: usize,
     w: Went,
     line: &[u8],
@@ -86,7 +88,8 @@ fn put_raw_line(rt: &HostRuntime,
 }
 
 // Writes the raw lines.
-fn put_raw(rt: &HostRuntime, 
+fn put_raw(
+    rt: &HostRuntime,
     text: &[u8],
     tidy: &[u8],
     records: &[u8],
@@ -147,7 +150,14 @@ fn put_sources(rt: &HostRuntime, next: &[usize], at: usize, end: usize) -> Sent 
 }
 
 // Writes tidy line `n`, where the chain from `at` on has the raw lines behind it.
-fn put_tidy_line(rt: &HostRuntime, n: usize, line: &[u8], next: &[usize], at: usize, end: usize) -> Sent {
+fn put_tidy_line(
+    rt: &HostRuntime,
+    n: usize,
+    line: &[u8],
+    next: &[usize],
+    at: usize,
+    end: usize,
+) -> Sent {
     put::bytes(rt, b"<li tabindex=\"0\" id=\"t")
         & put::place(rt, n)
         & put::bytes(rt, b"\" data-to=\"")
@@ -177,7 +187,8 @@ fn put_tidy(rt: &HostRuntime, tidy: &[u8], first: &[usize], next: &[usize], end:
 }
 
 // Writes the page.
-pub fn put_page(rt: &HostRuntime, 
+pub fn put_page(
+    rt: &HostRuntime,
     text: &[u8],
     tidy: &[u8],
     records: &[u8],

@@ -1,10 +1,11 @@
 // The parts of the page that are the same for every listing: everything that it needs is in it. Each function returns whether it went out.
-use input::host::Sent;
 use crate::put;
+use input::host::Sent;
 
 // What the page is.
 fn put_meta(rt: &HostRuntime) -> Sent {
-    put::bytes(rt, 
+    put::bytes(
+        rt,
         b"<!DOCTYPE html>
 <html lang=\"en\">
 <head>
@@ -17,7 +18,8 @@ fn put_meta(rt: &HostRuntime) -> Sent {
 
 // How its parts look.
 fn put_looks(rt: &HostRuntime) -> Sent {
-    put::bytes(rt, 
+    put::bytes(
+        rt,
         b"<style>
 :root { --same: #444; --changed: #1a5fb4; --inside: #8a5a00; --gone: #a51d2d; --mark: #fff3b0; --pin: #ffd75e; }
 body { margin: 0; font: 15px/1.4 system-ui, sans-serif; color: #111; background: #fff; }
@@ -35,7 +37,8 @@ li { display: grid; grid-template-columns: 1.6em 3.4em 1fr; padding: 0 .5em; bor
 
 // How lines look by their fates: by colour, by sign and by shape.
 fn put_fates(rt: &HostRuntime) -> Sent {
-    put::bytes(rt, 
+    put::bytes(
+        rt,
         b"li:focus { outline: 2px solid #000; outline-offset: -2px; }
 code { font: 14px/1.5 ui-monospace, monospace; white-space: pre-wrap; overflow-wrap: anywhere; unicode-bidi: isolate; direction: ltr; }
 #tidy li { grid-template-columns: 3.4em 1fr; }
@@ -63,7 +66,8 @@ pub fn put_head(rt: &HostRuntime) -> Sent {
 
 // What stands between that name and the raw lines.
 pub fn put_legend(rt: &HostRuntime) -> Sent {
-    put::bytes(rt, 
+    put::bytes(
+        rt,
         b"</h1>
 <p>Move over a line, or click it, to see the lines that belong to it. Keys: arrows up and down to move, left and right to change sides, Enter to keep a line marked, Escape to let go.</p>
 <p><span class=\"f0\"><i>=</i>as it was</span> <span class=\"f1\"><i>~</i>changed</span> <span class=\"f2\"><i>&gt;</i>its value is inside another line</span> <span class=\"f3\"><i>&times;</i>gone</span></p>
@@ -76,7 +80,8 @@ pub fn put_legend(rt: &HostRuntime) -> Sent {
 
 // What stands between the raw lines and the tidy ones.
 pub fn put_middle(rt: &HostRuntime) -> Sent {
-    put::bytes(rt, 
+    put::bytes(
+        rt,
         b"</ol></section>
 <section aria-label=\"tidy listing\"><h2>tidy</h2><ol id=\"tidy\">
 ",
@@ -85,7 +90,8 @@ pub fn put_middle(rt: &HostRuntime) -> Sent {
 
 // How lines that belong together are found and marked.
 fn put_marks(rt: &HostRuntime) -> Sent {
-    put::bytes(rt, 
+    put::bytes(
+        rt,
         b"</ol></section>
 </main>
 <script>
@@ -117,7 +123,8 @@ fn put_marks(rt: &HostRuntime) -> Sent {
 
 // What the mouse and the keys do.
 fn put_moves(rt: &HostRuntime) -> Sent {
-    put::bytes(rt, 
+    put::bytes(
+        rt,
         b"    if (pinned) show(pinned);
   }
   function lineOf(e) { return e.target.closest ? e.target.closest(\"li\") : null; }

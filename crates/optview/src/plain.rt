@@ -1,7 +1,7 @@
 // A listing and what it became as plain text: each raw line with where it went and why, and each tidy line with the raw lines behind it. Each function returns
 // whether it went out.
-use input::host::Sent;
 use crate::{chain, put, why};
+use input::host::Sent;
 use origins::{Form, Went};
 
 // A number from 1 to the right of a column of five, or a sign where there is none.
@@ -36,7 +36,8 @@ fn put_margin(rt: &HostRuntime) -> Sent {
 }
 
 // What is said of raw line `k` below it. Where it changed, the chain from `at` on has the raw lines behind what it became.
-fn put_more(rt: &HostRuntime, 
+fn put_more(
+    rt: &HostRuntime,
     k: usize,
     w: Went,
     line: &[u8],
@@ -72,7 +73,8 @@ pub fn stands(w: Went) -> bool {
 }
 
 // Writes the raw lines, each with where it went.
-fn put_raw(rt: &HostRuntime, 
+fn put_raw(
+    rt: &HostRuntime,
     text: &[u8],
     tidy: &[u8],
     records: &[u8],
@@ -121,10 +123,21 @@ pub fn put_numbers(rt: &HostRuntime, next: &[usize], at: usize, end: usize) -> S
 }
 
 // Writes tidy line `n` with the raw lines behind it, which the chain from `at` on has: beside it where there is one, else below it.
-fn put_tidy_line(rt: &HostRuntime, n: usize, line: &[u8], next: &[usize], at: usize, end: usize) -> Sent {
+fn put_tidy_line(
+    rt: &HostRuntime,
+    n: usize,
+    line: &[u8],
+    next: &[usize],
+    at: usize,
+    end: usize,
+) -> Sent {
     let number = put_column(rt, n);
     if chain::count(next, at, end) == 1 {
-        return number & put_column(rt, at) & put::bytes(rt, b" | ") & put::bytes(rt, line) & put::bytes(rt, b"\n");
+        return number
+            & put_column(rt, at)
+            & put::bytes(rt, b" | ")
+            & put::bytes(rt, line)
+            & put::bytes(rt, b"\n");
     }
     number
         & put::bytes(rt, b"      | ")
@@ -152,7 +165,8 @@ fn put_tidy(rt: &HostRuntime, tidy: &[u8], first: &[usize], next: &[usize], end:
 }
 
 // Writes both listings.
-pub fn put_both(rt: &HostRuntime, 
+pub fn put_both(
+    rt: &HostRuntime,
     text: &[u8],
     tidy: &[u8],
     records: &[u8],
@@ -161,8 +175,10 @@ pub fn put_both(rt: &HostRuntime,
     first: &[usize],
     next: &[usize],
 ) -> Sent {
-    put::bytes(rt, b"  raw tidy     (= as it was, ~ changed, > inside another line, x gone)\n")
-        & put_raw(rt, text, tidy, records, gone, held, first, next)
+    put::bytes(
+        rt,
+        b"  raw tidy     (= as it was, ~ changed, > inside another line, x gone)\n",
+    ) & put_raw(rt, text, tidy, records, gone, held, first, next)
         & put::bytes(rt, b"\n tidy  raw\n")
         & put_tidy(rt, tidy, first, next, lines::count_lines(text))
 }

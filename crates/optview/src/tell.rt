@@ -25,7 +25,10 @@ pub fn cannot_write(rt: &HostRuntime, why: i32) {
 
 // Says that the records of this program's own making are not right.
 pub fn bad_records(rt: &HostRuntime, number: u8, place: usize) {
-    say(rt, b"optview: the records are refused, which is a fault of this program: ");
+    say(
+        rt,
+        b"optview: the records are refused, which is a fault of this program: ",
+    );
     say_number(rt, number as usize);
     say(rt, b" ");
     say_number(rt, place);
@@ -40,7 +43,8 @@ fn explain(rt: &HostRuntime, number: u8, place: usize, name: &[u8]) {
     say_number(rt, place);
     say(rt, b" in ");
     say(rt, name);
-    say(rt, 
+    say(
+        rt,
         b"\noptview: nothing is shown of a listing that cannot be tidied; optlines says of it what is wrong, where, and what to do\n",
     );
 }

@@ -1,15 +1,17 @@
 // Why a line went, or is another, in a person's words. Each function returns whether they went out.
-use input::host::Sent;
 use crate::{chain, put};
+use input::host::Sent;
 
 // Of what pass 2 lets go: declarations, and stores.
 fn put_once(rt: &HostRuntime, line: &[u8]) -> Sent {
     if parse::declares(line) {
-        return put::bytes(rt, 
+        return put::bytes(
+            rt,
             b"nothing that is left of its region reads or stores the registers that it declares",
         );
     }
-    put::bytes(rt, 
+    put::bytes(
+        rt,
         b"nothing below in its region needs what it stores, or a call below holds the member that it loads",
     )
 }
@@ -19,17 +21,24 @@ fn put_phi(rt: &HostRuntime, line: &[u8]) -> Sent {
     if lines::starts_with(text::trim(line), b"let ") {
         return put::bytes(rt, b"it declares phis that no line reads");
     }
-    put::bytes(rt, b"it stores a phi that no line reads, and its value has no effect")
+    put::bytes(
+        rt,
+        b"it stores a phi that no line reads, and its value has no effect",
+    )
 }
 
 // Why a line went in a stage: 1 is the removal of lines that declare globals, and k + 1 is pass k.
 fn put_stage(rt: &HostRuntime, stage: u8, line: &[u8]) -> Sent {
     match stage {
         1 => put::bytes(rt, b"it declares globals to the runtime"),
-        2 => put::bytes(rt, b"it stores a temp that no line reads, and its value has no effect"),
+        2 => put::bytes(
+            rt,
+            b"it stores a temp that no line reads, and its value has no effect",
+        ),
         3 => put_once(rt, line),
         4 => put_phi(rt, line),
-        6 => put::bytes(rt, 
+        6 => put::bytes(
+            rt,
             b"nothing that is left of its region reads or stores the registers that it declares",
         ),
         7 => put::bytes(rt, b"its registers are declared at their stores"),
@@ -66,7 +75,10 @@ pub fn put_inside(rt: &HostRuntime, held: u8, n: usize) -> Sent {
     there
         & put::bytes(rt, b", ")
         & put_pass(rt, held)
-        & put::bytes(rt, b": it is an argument, or what is called, of a call below")
+        & put::bytes(
+            rt,
+            b": it is an argument, or what is called, of a call below",
+        )
 }
 
 // Writes the numbers of the lines of a chain that are not `k`, from 1.
@@ -88,7 +100,14 @@ fn put_others(rt: &HostRuntime, next: &[usize], at: usize, end: usize, k: usize)
 }
 
 // What a changed line has of others, behind a sign: the chain from `at` on has the raw lines that are behind what it became, itself among them.
-fn put_taken(rt: &HostRuntime, sign: &[u8], next: &[usize], at: usize, end: usize, k: usize) -> Sent {
+fn put_taken(
+    rt: &HostRuntime,
+    sign: &[u8],
+    next: &[usize],
+    at: usize,
+    end: usize,
+    k: usize,
+) -> Sent {
     let n = chain::count(next, at, end);
     if n <= 1 {
         return Sent::Whole;
@@ -98,7 +117,9 @@ fn put_taken(rt: &HostRuntime, sign: &[u8], next: &[usize], at: usize, end: usiz
             & put::bytes(rt, b"it has the value of raw line")
             & put_others(rt, next, at, end, k);
     }
-    put::bytes(rt, sign) & put::bytes(rt, b"it has the values of raw lines") & put_others(rt, next, at, end, k)
+    put::bytes(rt, sign)
+        & put::bytes(rt, b"it has the values of raw lines")
+        & put_others(rt, next, at, end, k)
 }
 
 // Whether a line stores, where what it became declares.
@@ -107,7 +128,8 @@ fn declares_now(line: &[u8], tidy: &[u8]) -> bool {
 }
 
 // Why line `k` is another, where `tidy` is what it became, and the chain from `at` on has the raw lines behind that.
-pub fn put_changed(rt: &HostRuntime, 
+pub fn put_changed(
+    rt: &HostRuntime,
     line: &[u8],
     tidy: &[u8],
     next: &[usize],
@@ -116,7 +138,8 @@ pub fn put_changed(rt: &HostRuntime,
     k: usize,
 ) -> Sent {
     if parse::declares(line) {
-        return put::bytes(rt, 
+        return put::bytes(
+            rt,
             b"changed: registers that its region does not need, or that are declared at their stores, are left out",
         );
     }

@@ -11,10 +11,9 @@ mod tell;
 ghost use Rattle.std.specs.Prelude.{◌≡◌, length};
 
 use asked::Number;
-use input::Got;
-use std::fs::File;
-use input::host;
 use input::host::{Opened, Sent, Word};
+use input::{Got, host};
+use std::fs::File;
 
 // How many bytes of records are taken: 100,000 of the longer form.
 const MOST: usize = 1100000;
@@ -51,13 +50,7 @@ enum Loaded {
 }
 
 // Reads an open file of a name, of at most so many bytes; says why where it did not come whole.
-fn read_named(
-    rt: &HostRuntime,
-    from: File,
-    name: &[u8],
-    most: usize,
-    file: &mut [u8],
-) -> Loaded {
+fn read_named(rt: &HostRuntime, from: File, name: &[u8], most: usize, file: &mut [u8]) -> Loaded {
     let mut from = from;
     match input::read_input(&mut from, file) {
         Got::Whole(n) => {
@@ -193,7 +186,11 @@ fn for_editor(rt: &HostRuntime) {
     match host::take_arg(rt, 2, &mut name) {
         Word::Is(m) => take_editor(rt, lines::cut(&name, 0, m)),
         Word::Failed(why) => {
-            host::say_failed(rt, b"optwhere: cannot take the name of the raw listing", why);
+            host::say_failed(
+                rt,
+                b"optwhere: cannot take the name of the raw listing",
+                why,
+            );
         }
     }
 }
@@ -205,7 +202,9 @@ fn main(rt: HostRuntime) {
         return;
     }
     if host::arg_count(rt) != 3 {
-        host::say(rt, b"optwhere: it wants the file of records and the number of a line\n",
+        host::say(
+            rt,
+            b"optwhere: it wants the file of records and the number of a line\n",
         );
         return;
     }

@@ -51,10 +51,16 @@ fn meaning(rt: &HostRuntime, number: u8) {
     match number {
         1 => say(rt, b"the records end within a record\n"),
         2 => say(rt, b"a record begins with another mark than the file's\n"),
-        3 => say(rt, b"a record is out of order: its input line is not its own number\n"),
+        3 => say(
+            rt,
+            b"a record is out of order: its input line is not its own number\n",
+        ),
         4 => say(rt, b"a record has an unknown fate\n"),
         5 => say(rt, b"a record's fate and its output line disagree\n"),
-        _ => say(rt, b"there is too little room, which is a fault of this program\n"),
+        _ => say(
+            rt,
+            b"there is too little room, which is a fault of this program\n",
+        ),
     }
 }
 
@@ -66,7 +72,8 @@ pub fn explain(rt: &HostRuntime, number: u8, place: usize) {
     meaning(rt, number);
     say(rt, b"optwhere: at record ");
     say_number(rt, place);
-    say(rt, 
+    say(
+        rt,
         b", counted from 0\noptwhere: have the records written anew, or get the whole file again\n",
     );
 }

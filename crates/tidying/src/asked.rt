@@ -156,7 +156,12 @@ fn take_pass(rt: &HostRuntime, program: &[u8], task: Task, at: usize) -> Taken {
             Taken::Option(Next { task, at })
         }
         Number::Missing => {
-            crate::tell::say_word(rt, program, b": --pass wants a number from 1 to 6, not: ", at);
+            crate::tell::say_word(
+                rt,
+                program,
+                b": --pass wants a number from 1 to 6, not: ",
+                at,
+            );
             Taken::Wrong
         }
     }

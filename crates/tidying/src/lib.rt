@@ -96,13 +96,19 @@ fn put_records(rt: &HostRuntime, program: &[u8], at: usize, records: &[u8]) {
     match host::take_arg(rt, at, &mut name) {
         Word::Is(n) => write_records(rt, program, lines::cut(&name, 0, n), records),
         Word::Failed(why) => {
-            tell::fail(rt, program, b"take the name of the file for the records", why);
+            tell::fail(
+                rt,
+                program,
+                b"take the name of the file for the records",
+                why,
+            );
         }
     }
 }
 
 // Says what came of a text. A refusal is told on standard error too: a tidy text may read like one, and a person wants to know more.
-pub fn report(rt: &HostRuntime, 
+pub fn report(
+    rt: &HostRuntime,
     program: &[u8],
     task: Task,
     answer: Answer,

@@ -76,7 +76,8 @@ fn say_where(rt: &HostRuntime, program: &[u8], what: &[u8], text: &[u8], at: usi
 }
 
 fn say_whole(rt: &HostRuntime, program: &[u8]) {
-    say_line(rt, 
+    say_line(
+        rt,
         program,
         b": optlarge takes up to 1,048,576 bytes and 100,000 lines; for more ask for smaller scripts, since a listing that is cut in parts may lose lines that the whole keeps\n",
     );
@@ -89,7 +90,8 @@ fn explain_pass(rt: &HostRuntime, program: &[u8]) {
 
 fn explain_mode(rt: &HostRuntime, program: &[u8]) {
     say(rt, b"there is no mode of that number\n");
-    say_line(rt, 
+    say_line(
+        rt,
         program,
         b": the modes have the numbers 0, plain, 1, strict, 2, joined, and 3, both\n",
     );
@@ -106,7 +108,13 @@ fn explain_long(rt: &HostRuntime, program: &[u8], text: &[u8], place: usize) {
 
 fn explain_cut(rt: &HostRuntime, program: &[u8], text: &[u8], place: usize) {
     say(rt, b"it ends within a character\n");
-    say_where(rt, program, b"the first byte of that character", text, place);
+    say_where(
+        rt,
+        program,
+        b"the first byte of that character",
+        text,
+        place,
+    );
     say_line(rt, program, b": the file was cut there: ask for it again\n");
 }
 
@@ -114,7 +122,8 @@ fn explain_cut(rt: &HostRuntime, program: &[u8], text: &[u8], place: usize) {
 fn explain_damage(rt: &HostRuntime, program: &[u8], what: &[u8], text: &[u8], place: usize) {
     say(rt, what);
     say_where(rt, program, b"the first bad byte", text, place);
-    say_line(rt, 
+    say_line(
+        rt,
         program,
         b": the file is damaged there, or is not in UTF-8: ask for a whole one, or convert it, as iconv does\n",
     );
@@ -125,7 +134,8 @@ fn explain_lines(rt: &HostRuntime, program: &[u8], text: &[u8], place: usize) {
     say(rt, b"it has more than ");
     say_number(rt, place);
     say(rt, b" lines\n");
-    say_where(rt, 
+    say_where(
+        rt,
         program,
         b"the first byte too many",
         text,
@@ -136,7 +146,8 @@ fn explain_lines(rt: &HostRuntime, program: &[u8], text: &[u8], place: usize) {
 
 fn explain_crowded(rt: &HostRuntime, program: &[u8], text: &[u8], place: usize) {
     say(rt, b"a line has more than 64 opening brackets [\n");
-    say_where(rt, 
+    say_where(
+        rt,
         program,
         b"the first bracket too many",
         text,
@@ -155,11 +166,21 @@ fn explain_wide(rt: &HostRuntime, program: &[u8], place: usize) {
 
 // The numbers 3, 7 and 8 are of short buffers, and those of the programs are of the stated sizes.
 fn explain_other(rt: &HostRuntime) {
-    say(rt, b"this program lends too little room, which is a fault of its own\n");
+    say(
+        rt,
+        b"this program lends too little room, which is a fault of its own\n",
+    );
 }
 
 // Tells a person of a refusal.
-pub fn explain(rt: &HostRuntime, program: &[u8], number: u8, place: usize, text: &[u8], name: &[u8]) {
+pub fn explain(
+    rt: &HostRuntime,
+    program: &[u8],
+    number: u8,
+    place: usize,
+    text: &[u8],
+    name: &[u8],
+) {
     say_line(rt, program, b": refused ");
     say_number(rt, number as usize);
     say(rt, b" in ");
@@ -172,13 +193,15 @@ pub fn explain(rt: &HostRuntime, program: &[u8], number: u8, place: usize, text:
         5 => explain_lines(rt, program, text, place),
         6 => explain_crowded(rt, program, text, place),
         9 => explain_cut(rt, program, text, place),
-        10 => explain_damage(rt, 
+        10 => explain_damage(
+            rt,
             program,
             b"it has an overlong form, which UTF-8 has not\n",
             text,
             place,
         ),
-        11 => explain_damage(rt, 
+        11 => explain_damage(
+            rt,
             program,
             b"it has a surrogate or a value above U+10FFFF, which UTF-8 has not\n",
             text,

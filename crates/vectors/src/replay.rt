@@ -70,7 +70,15 @@ fn ended(t: Tally, cut: bool) -> Tally {
 }
 
 // Compares our answer of `n` bytes with the original's of `m`.
-fn compare(rt: &HostRuntime, t: Tally, function: u8, ours: &[u8], n: usize, theirs: &[u8], m: usize) -> Tally {
+fn compare(
+    rt: &HostRuntime,
+    t: Tally,
+    function: u8,
+    ours: &[u8],
+    n: usize,
+    theirs: &[u8],
+    m: usize,
+) -> Tally {
     if ours.len() < n {
         return passed(t);
     }
@@ -83,7 +91,15 @@ fn compare(rt: &HostRuntime, t: Tally, function: u8, ours: &[u8], n: usize, thei
 }
 
 // Reads the original's answer and compares the `n` bytes of ours with it.
-fn judge(rt: &HostRuntime, from: &mut File, t: Tally, function: u8, out: &[u8], n: usize, want: &mut [u8]) -> Tally {
+fn judge(
+    rt: &HostRuntime,
+    from: &mut File,
+    t: Tally,
+    function: u8,
+    out: &[u8],
+    n: usize,
+    want: &mut [u8],
+) -> Tally {
     match wire::read_text(from, want) {
         Text::Whole(m) => compare(rt, t, function, out, n, want, m),
         Text::Cut => ended(t, true),
@@ -91,7 +107,14 @@ fn judge(rt: &HostRuntime, from: &mut File, t: Tally, function: u8, out: &[u8], 
 }
 
 // Replays one request. The original's answer is read into the buffer of the first text, which is no longer needed then.
-fn replay_one(rt: &HostRuntime, from: &mut File, t: Tally, a: &mut [u8], b: &mut [u8], out: &mut [u8]) -> Tally {
+fn replay_one(
+    rt: &HostRuntime,
+    from: &mut File,
+    t: Tally,
+    a: &mut [u8],
+    b: &mut [u8],
+    out: &mut [u8],
+) -> Tally {
     match reply::reply_one(from, a, b, out) {
         Turn::Answer(f, n) => judge(rt, from, t, f, out, n, a),
         Turn::Ended => ended(t, false),
@@ -100,7 +123,13 @@ fn replay_one(rt: &HostRuntime, from: &mut File, t: Tally, a: &mut [u8], b: &mut
 }
 
 // Replays a file. No run uses up the turns.
-pub fn replay(rt: &HostRuntime, from: &mut File, a: &mut [u8], b: &mut [u8], out: &mut [u8]) -> Tally {
+pub fn replay(
+    rt: &HostRuntime,
+    from: &mut File,
+    a: &mut [u8],
+    b: &mut [u8],
+    out: &mut [u8],
+) -> Tally {
     let mut t = Tally {
         asked: 0,
         agreed: 0,
@@ -119,7 +148,8 @@ pub fn replay(rt: &HostRuntime, from: &mut File, a: &mut [u8], b: &mut [u8], out
 // Says how a replay came out.
 pub fn report(rt: &HostRuntime, t: Tally) {
     if t.cut {
-        say_count(rt, 
+        say_count(
+            rt,
             b"the file is cut after ",
             std::num::wrapping_add_u64(t.asked, t.passed),
             b" requests\n",

@@ -44,7 +44,13 @@ pub fn read_text<R: Read>(from: &mut R, buf: &mut [u8]) -> Text {
 }
 
 // Reads the second text of a request, whose first has the length `a`.
-fn read_second<R: Read>(from: &mut R, function: u8, number: u64, a: usize, buf: &mut [u8]) -> Asked {
+fn read_second<R: Read>(
+    from: &mut R,
+    function: u8,
+    number: u64,
+    a: usize,
+    buf: &mut [u8],
+) -> Asked {
     match read_text(from, buf) {
         Text::Whole(b) => Asked::Whole(Request {
             function,
