@@ -12,7 +12,7 @@ pub slice_bounds-gather-end : goal.slice_bounds-gather-end
 slice_bounds-gather-end c = (wrote-front c.split_lines-n.ensures).fits
 
 pub slice_bounds-gather-end-2 : goal.slice_bounds-gather-end-2
-slice_bounds-gather-end-2 c = let f = c.split_lines-n in sym (length-take-le f.result f.new.1.0 (wrote-front f.ensures).fits)
+slice_bounds-gather-end-2 c = let f = c.split_lines-n in sym (length-take-le f.result f.new.out (wrote-front f.ensures).fits)
 
 pub loop-j-init : goal.loop-j-init
 loop-j-init c = (chain-start _ _ _ c.args.table.now c.requires.0 c.split_lines-n.ensures c.requires.1.1.1.1 c.wipe.ensures, record { a-same = refl; b-same = refl; c-same = refl; d-same = refl; e-same = refl; f-same = refl; g-same = refl; h-same = refl; u_same = refl; v-same = refl; w-same = refl; x-same = refl; p-same = refl; q-same = refl; r-same = refl; t_same = refl; z-same = refl })
@@ -45,7 +45,7 @@ pub slice_bounds-put-end : goal.slice_bounds-put-end
 slice_bounds-put-end c = (wrote-front c.step-k.ensures.answer).fits
 
 pub slice_bounds-put-end-else-idle : goal.slice_bounds-put-end-else-idle
-slice_bounds-put-end-else-idle c = let f = c.step-k in sym (length-take-le f.result f.new.1.1.1.1.1.0 (wrote-front f.ensures.answer).fits)
+slice_bounds-put-end-else-idle c = let f = c.step-k in sym (length-take-le f.result f.new.dst (wrote-front f.ensures.answer).fits)
 
 pub put-n-requires : goal.put-n-requires
 put-n-requires c = let h = c.loop-j.invariant in omega (arith, chain_fits h.0 (omega (arith, c.requires.1.0, h.1.a-same, c.split_lines-n.auto.out)) c.step-k.ensures.answer)
@@ -57,7 +57,7 @@ pub loop-j-smaller : goal.loop-j-smaller
 loop-j-smaller c = omega (arith, c.loop-j-test.true)
 
 pub loop-j-preserved : goal.loop-j-preserved
-loop-j-preserved c = let h = c.loop-j.invariant in let f = c.step-k in let s = h.1 in (chain-on h.0 c.loop-j-test.true f.ensures.answer c.put-n.ensures f.ensures.origins, record { a-same = c.put-n.auto.out ∙ s.a-same; b-same = f.auto.1.1.1.1.1.0 ∙ s.b-same; c-same = f.auto.1.1.1.1.1.1.0 ∙ s.c-same; d-same = f.auto.1.1.1.1.1.1.1.0 ∙ s.d-same; e-same = f.auto.1.1.1.1.1.1.1.1.0 ∙ s.e-same; f-same = f.auto.1.1.1.1.1.1.1.1.1.0 ∙ s.f-same; g-same = f.auto.1.1.1.1.1.1.1.1.1.1.0 ∙ s.g-same; h-same = f.auto.1.1.1.1.1.1.1.1.1.1.1.0 ∙ s.h-same; u_same = f.auto.1.1.1.1.1.1.1.1.1.1.1.1.0 ∙ s.u_same; v-same = f.auto.1.1.1.1.1.1.1.1.1.1.1.1.1.0 ∙ s.v-same; w-same = f.auto.1.1.1.1.1.1.1.1.1.1.1.1.1.1.0 ∙ s.w-same; x-same = f.auto.1.1.1.1.1.1.1.1.1.1.1.1.1.1.1.0 ∙ s.x-same; p-same = f.auto.1.1.1.1.1.1.1.1.1.1.1.1.1.1.1.1.0 ∙ s.p-same; q-same = f.auto.1.1.1.1.1.1.1.1.1.1.1.1.1.1.1.1.1.0 ∙ s.q-same; r-same = f.auto.1.1.1.1.1.1.1.1.1.1.1.1.1.1.1.1.1.1.0 ∙ s.r-same; t_same = f.auto.1.1.1.1.1.1.1.1.1.1.1.1.1.1.1.1.1.1.1.0 ∙ s.t_same; z-same = f.auto.1.1.1.1.1.1.1.1.1.1.1.1.1.1.1.1.1.1.1.1.0 ∙ s.z-same })
+loop-j-preserved c = let h = c.loop-j.invariant in let f = c.step-k in let s = h.1 in (chain-on h.0 c.loop-j-test.true f.ensures.answer c.put-n.ensures f.ensures.origins, record { a-same = c.put-n.auto.out ∙ s.a-same; b-same = f.auto.dst ∙ s.b-same; c-same = f.auto.c ∙ s.c-same; d-same = f.auto.d ∙ s.d-same; e-same = f.auto.e ∙ s.e-same; f-same = f.auto.f ∙ s.f-same; g-same = f.auto.g ∙ s.g-same; h-same = f.auto.h ∙ s.h-same; u_same = f.auto.u ∙ s.u_same; v-same = f.auto.v ∙ s.v-same; w-same = f.auto.w ∙ s.w-same; x-same = f.auto.x ∙ s.x-same; p-same = f.auto.p ∙ s.p-same; q-same = f.auto.q ∙ s.q-same; r-same = f.auto.r ∙ s.r-same; t_same = f.auto.t ∙ s.t_same; z-same = f.auto.table ∙ s.z-same })
 
 pub shape_of-a : goal.shape_of-a
 shape_of-a c = c.loop-j.invariant.1.a-same ∙ c.split_lines-n.auto.out

@@ -13,5 +13,5 @@ put_all-r-requires c = c.requires.1
 
 pub returns : goal.returns
 returns c =
-    let f = c.put_all in
-    record { answer = f.ensures.0; memory = (f.ensures.1.0, c.wipe_all.ensures); records = f.ensures.1.1 }
+    let f = c.put_all-r in
+    record { answer = f.ensures.answer; memory = (f.ensures.result, c.wipe_all.ensures); records = f.ensures.records }

@@ -22,13 +22,13 @@ pub chain-n-requires : goal.chain-n-requires
 chain-n-requires c = let p = c.requires in (p.0, (p.1.0, (p.1.1.0, (p.1.1.1.0, length-take-le c.count_lines-k.result c.args.table.now (omega (arith, c.count_lines-k.ensures, c.requires.0.lines, c.requires.1.1.1.1)) ∙ c.count_lines-k.ensures))))
 
 pub slice_bounds-close-end : goal.slice_bounds-close-end
-slice_bounds-close-end c = omega (arith, c.count_lines-k.ensures, c.requires.0.lines, c.requires.1.1.1.1, length_front c.args.table.now c.chain-n.new.table.0 c.count_lines-k.result c.chain-n.auto.table)
+slice_bounds-close-end c = omega (arith, c.count_lines-k.ensures, c.requires.0.lines, c.requires.1.1.1.1, length_front c.args.table.now c.chain-n.new.table c.count_lines-k.result c.chain-n.auto.table)
 
 pub slice_bounds-close-end-2 : goal.slice_bounds-close-end-2
-slice_bounds-close-end-2 c = sym (length-take-le _ _ (omega (arith, c.count_lines-k.ensures, c.requires.0.lines, c.requires.1.1.1.1, length_front c.args.table.now c.chain-n.new.table.0 c.count_lines-k.result c.chain-n.auto.table)))
+slice_bounds-close-end-2 c = sym (length-take-le _ _ (omega (arith, c.count_lines-k.ensures, c.requires.0.lines, c.requires.1.1.1.1, length_front c.args.table.now c.chain-n.new.table c.count_lines-k.result c.chain-n.auto.table)))
 
 pub close-y-requires : goal.close-y-requires
-close-y-requires c = (c.chain-n.ensures.answer.fits, omega (arith, ap length (take_at c.chain-n.new.table.0 (drop c.count_lines-k.result c.args.table.now) c.count_lines-k.result (c.chain-n.auto.table ∙ length-take-le c.count_lines-k.result c.args.table.now (omega (arith, c.count_lines-k.ensures, c.requires.0.lines, c.requires.1.1.1.1)))), (c.chain-n.auto.table ∙ length-take-le c.count_lines-k.result c.args.table.now (omega (arith, c.count_lines-k.ensures, c.requires.0.lines, c.requires.1.1.1.1))), c.count_lines-k.ensures, text-lines c.args.text.now c.requires.0))
+close-y-requires c = (c.chain-n.ensures.answer.fits, omega (arith, ap length (take_at c.chain-n.new.table (drop c.count_lines-k.result c.args.table.now) c.count_lines-k.result (c.chain-n.auto.table ∙ length-take-le c.count_lines-k.result c.args.table.now (omega (arith, c.count_lines-k.ensures, c.requires.0.lines, c.requires.1.1.1.1)))), (c.chain-n.auto.table ∙ length-take-le c.count_lines-k.result c.args.table.now (omega (arith, c.count_lines-k.ensures, c.requires.0.lines, c.requires.1.1.1.1))), c.count_lines-k.ensures, text-lines c.args.text.now c.requires.0))
 
 pub shape_of-a : goal.shape_of-a
 shape_of-a c = c.close-y.auto.a ∙ c.chain-n.auto.a
@@ -82,7 +82,7 @@ pub shape_of-own : goal.shape_of-own
 shape_of-own c = c.wipe_tables.auto.own ∙ c.chain-n.auto.own
 
 pub shape_of-table : goal.shape_of-table
-shape_of-table c = c.wipe_tables.auto.table ∙ length_front c.args.table.now c.chain-n.new.table.0 c.count_lines-k.result c.chain-n.auto.table
+shape_of-table c = c.wipe_tables.auto.table ∙ length_front c.args.table.now c.chain-n.new.table c.count_lines-k.result c.chain-n.auto.table
 
 pub returns : goal.returns
 returns c =
@@ -94,6 +94,6 @@ returns c =
     let h = c.chain-n.ensures.answer in
     let q = c.chain-n.auto in
     let w = c.close-y in
-    let e = (take_at c.chain-n.new.table.0 (drop c.count_lines-k.result c.args.table.now) c.count_lines-k.result (c.chain-n.auto.table ∙ length-take-le c.count_lines-k.result c.args.table.now (omega (arith, c.count_lines-k.ensures, c.requires.0.lines, c.requires.1.1.1.1)))) in
+    let e = (take_at c.chain-n.new.table (drop c.count_lines-k.result c.args.table.now) c.count_lines-k.result (c.chain-n.auto.table ∙ length-take-le c.count_lines-k.result c.args.table.now (omega (arith, c.count_lines-k.ensures, c.requires.0.lines, c.requires.1.1.1.1)))) in
     let k = ap length e ∙ (c.chain-n.auto.table ∙ length-take-le c.count_lines-k.result c.args.table.now (omega (arith, c.count_lines-k.ensures, c.requires.0.lines, c.requires.1.1.1.1))) ∙ c.count_lines-k.ensures in
-    record { answer = front-answer s t h w.result g.out.now g.m.form _ (length g.orig.now) k w.ensures.answer; memory = (front_out s t h w.result g.out.now w.ensures.memory.0, blank-as q.1.1.0 q.1.1.1.0 q.1.1.1.1.0 q.1.1.1.1.1.0 q.1.1.1.1.1.1.0 q.1.1.1.1.1.1.1.1.1.1.0 w.ensures.memory.1); records = front-records s t h w.result g.orig.now g.m.form (steps_fates (reading_of g.m.mode.0) g.m.from n) (steps-goes y g.m.from n (split_lines s)) (omega (arith, text-lines s c.requires.0)) (e ∙ c.chain-n.ensures.origins) w.ensures.records; tables = unused-as q.1.1.1.1.1.1.1.0 q.1.1.1.1.1.1.1.1.0 q.1.1.1.1.1.1.1.1.1.0 q.1.1.1.1.1.1.1.1.1.1.1.0 q.1.1.1.1.1.1.1.1.1.1.1.1.0 q.1.1.1.1.1.1.1.1.1.1.1.1.1.0 q.1.1.1.1.1.1.1.1.1.1.1.1.1.1.0 q.1.1.1.1.1.1.1.1.1.1.1.1.1.1.1.0 q.1.1.1.1.1.1.1.1.1.1.1.1.1.1.1.1.0 q.1.1.1.1.1.1.1.1.1.1.1.1.1.1.1.1.1.0 q.1.1.1.1.1.1.1.1.1.1.1.1.1.1.1.1.1.1.0 (length_front c.args.table.now c.chain-n.new.table.0 c.count_lines-k.result c.chain-n.auto.table) c.wipe_tables.ensures }
+    record { answer = front-answer s t h w.result g.out.now g.m.form _ (length g.orig.now) k w.ensures.answer; memory = (front_out s t h w.result g.out.now w.ensures.memory.0, blank-as q.a q.b q.c q.d q.e q.u w.ensures.memory.1); records = front-records s t h w.result g.orig.now g.m.form (steps_fates (reading_of g.m.mode.0) g.m.from n) (steps-goes y g.m.from n (split_lines s)) (omega (arith, text-lines s c.requires.0)) (e ∙ c.chain-n.ensures.origins) w.ensures.records; tables = unused-as q.f q.g q.h q.v q.w q.x q.p q.q q.r q.t q.own (length_front c.args.table.now c.chain-n.new.table c.count_lines-k.result c.chain-n.auto.table) c.wipe_tables.ensures }
