@@ -9,7 +9,7 @@ use lib.Dec.{eqb}
 use lib.ListN.{length, replicate, length-append, length-replicate}
 use Rattle.lines.specs.Lf.{same, unlines, lines_of}
 use Rattle.lines.specs.Inner.Lf.{lacks, no_lf}
-use Rattle.lines.proofs.Tests.{no, and_both}
+use Rattle.lines.proofs.Tests.{and_both}
 use Rattle.lines.proofs.LfLaws.{lines-unlines}
 use Rattle.lexical.specs.Lex.{quote_len, token_of}
 use Rattle.text.specs.Utf8Form.{utf8_of}
