@@ -1,5 +1,5 @@
 -- Laws of dead temps: searches over trimmed pieces, and what one line asks. Assumes nothing.
-use Rattle.std.proofs.Common.{◌≡◌, ℕ, ◌+◌, ◌-◌, ◌<◌, ◌≤◌, min, Bool, true, false, cond, not, ◌&&◌, ◌||◌, ltb, List, [], ◌∷◌, length, drop, sym, refl, ap, ◌∙◌, arith, ltb-false, ltb-true}
+use Rattle.std.proofs.Common.{◌≡◌, ℕ, ◌+◌, ◌-◌, ◌<◌, ◌≤◌, min, Bool, true, false, cond, ◌&&◌, ◌||◌, ltb, List, [], ◌∷◌, length, drop, sym, refl, ap, ◌∙◌, arith, ltb-false, ltb-true}
 use Rattle.lines.specs.Lf.{part, up_to, lines_of, parts_of, prefixed, same}
 use Rattle.lines.proofs.Tests.{and_left, and_right}
 use Rattle.lines.proofs.LfLaws.{lines-at, lines_end, parts_at, parts-at-end}

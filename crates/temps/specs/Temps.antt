@@ -1,5 +1,5 @@
 -- `prune_dead_temps`: a store of a declared temp that nothing reads goes, where its value is pure. Assumes nothing.
-use Rattle.std.specs.Prelude.{ℕ, ◌-◌, Bool, true, false, cond, not, ◌&&◌, ◌||◌, List, [], ◌∷◌, length, nat_lt}
+use Rattle.std.specs.Prelude.{ℕ, ◌-◌, Bool, false, cond, not, ◌&&◌, ◌||◌, List, [], ◌∷◌, length, nat_lt}
 use Prim.Native.Char.{code}
 use Rattle.lines.specs.Lf.{parts_of, prefixed, same, ends_in}
 use Rattle.lines.specs.Acts.{Act, keep, gone, apply}

@@ -1,4 +1,4 @@
-use Rattle.std.proofs.Common.{ℕ, ◌-◌, List, sym, ap, ◌∙◌, arith}
+use Rattle.std.proofs.Common.{ℕ, List, sym, ap, ◌∙◌, arith}
 use Rattle.lines.specs.Lf.{parts_of, same}
 use Rattle.lines.proofs.LfLaws.{find-le}
 use Rattle.temps.proofs.TempLaws.{piece-any, piece-hit, piece-last, piece-on}

@@ -1,4 +1,4 @@
-use Rattle.std.proofs.Common.{ℕ, ◌-◌, List, sym, ap, ◌∙◌, arith}
+use Rattle.std.proofs.Common.{ℕ, List, sym, ap, ◌∙◌, arith}
 use Rattle.lines.specs.Lf.{lines_of}
 use Rattle.lines.proofs.Tests.{so}
 use Rattle.lines.proofs.LfLaws.{find-le}

@@ -1,4 +1,4 @@
-use Rattle.std.proofs.Common.{◌-◌, sym, ◌∙◌, arith}
+use Rattle.std.proofs.Common.{sym, ◌∙◌, arith}
 use Rattle.temps.proofs.Lacks.{seen-new, seen-old, seen_none, seen_end}
 use Rattle.temps.proofs.has_temp.Goals as goal
 

@@ -1,4 +1,4 @@
-use Rattle.std.proofs.Common.{ℕ, List, sym, ◌∙◌}
+use Rattle.std.proofs.Common.{ℕ, List, sym}
 use Rattle.lines.specs.Lf.{lines_of}
 use Rattle.temps.specs.Temps.{declared_in}
 use Rattle.temps.proofs.TableLaws.{told}

@@ -1,4 +1,4 @@
-use Rattle.std.proofs.Common.{ℕ, ◌-◌, ltb, List, sym, ap, ◌∙◌, arith, le-ltb, lt-ltb}
+use Rattle.std.proofs.Common.{ℕ, ltb, List, sym, ap, ◌∙◌, arith, le-ltb, lt-ltb}
 use Rattle.lines.specs.Lf.{lines_of}
 use Rattle.lines.proofs.LfLaws.{find-le}
 use Rattle.temps.specs.Temps.{temp_reads}

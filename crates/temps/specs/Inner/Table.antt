@@ -2,7 +2,7 @@
 -- Assumes nothing.
 use Rattle.std.specs.Prelude.{◌≡◌, ℕ, ◌+◌, ◌*◌, ◌^◌, ◌<◌, Bool, true, false, cond, not, ◌&&◌, ◌||◌, List, [], ◌∷◌, length, drop, ◌==◌, nat_lt}
 use Prim.Native.Char.{code}
-use Rattle.lines.specs.Lf.{parts_of, prefixed, same, ends_in}
+use Rattle.lines.specs.Lf.{parts_of, prefixed, same}
 use Rattle.text.specs.Trim.{trim_of}
 use Rattle.names.specs.Names.{temp_word, read_number, is_temp}
 use Rattle.names.specs.Inner.Names.{zeros}

@@ -1,4 +1,4 @@
-use Rattle.std.proofs.Common.{◌-◌, sym, ◌∙◌}
+use Rattle.std.proofs.Common.{sym, ◌∙◌}
 use Rattle.temps.proofs.TableLaws.{any_here, any-on, any-end}
 use Rattle.temps.proofs.table.any_flag.Goals as goal
 

@@ -1,4 +1,4 @@
-use Rattle.std.proofs.Common.{◌-◌, ◌∙◌, arith}
+use Rattle.std.proofs.Common.{◌∙◌, arith}
 use Rattle.temps.proofs.table.claim_lines.Goals as goal
 
 pub loop-i-smaller : goal.loop-i-smaller

@@ -1,4 +1,4 @@
-use Rattle.std.proofs.Common.{◌-◌, refl, arith}
+use Rattle.std.proofs.Common.{refl, arith}
 use Rattle.text.specs.Trim.{trim_of}
 use Rattle.temps.specs.Inner.Table.{flag_decls}
 use Rattle.temps.proofs.TableLaws.{flag-start, decls-on, decls-done}

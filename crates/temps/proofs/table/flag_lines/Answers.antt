@@ -1,4 +1,4 @@
-use Rattle.std.proofs.Common.{◌-◌, arith}
+use Rattle.std.proofs.Common.{arith}
 use Rattle.temps.specs.Inner.Table.{flag_lines}
 use Rattle.temps.proofs.TableLaws.{flag-start, lines-on, lines-done}
 use Rattle.temps.proofs.table.flag_lines.Goals as goal

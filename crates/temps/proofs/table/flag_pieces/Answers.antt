@@ -1,4 +1,4 @@
-use Rattle.std.proofs.Common.{◌-◌, arith}
+use Rattle.std.proofs.Common.{arith}
 use Rattle.temps.proofs.TableLaws.{pieces-start, piece-long, pieces-on, pieces_end}
 use Rattle.temps.proofs.table.flag_pieces.Goals as goal
 

@@ -1,4 +1,4 @@
-use Rattle.std.proofs.Common.{◌-◌, sym, refl, ◌∙◌, arith}
+use Rattle.std.proofs.Common.{sym, refl, ◌∙◌, arith}
 use Rattle.lines.specs.Lf.{part}
 use Rattle.temps.proofs.TableLaws.{runs-start, runs-name, run_long, runs-gap, runs-end}
 use Rattle.temps.proofs.table.flag_runs.Goals as goal

@@ -1,4 +1,4 @@
-use Rattle.std.proofs.Common.{sym, ap, ◌∙◌}
+use Rattle.std.proofs.Common.{ap, ◌∙◌}
 use Rattle.names.specs.declared.Number.{Number}
 use Rattle.temps.specs.Inner.Table.{flag_at}
 use Rattle.temps.proofs.table.flag_temp.Goals as goal

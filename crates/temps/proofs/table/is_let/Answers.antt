@@ -1,4 +1,4 @@
-use Rattle.std.proofs.Common.{◌-◌, false, eqb, length, get_or, sym, ◌∙◌, arith, rules, le-ltb, lt-ltb}
+use Rattle.std.proofs.Common.{◌-◌, false, eqb, length, get_or, sym, ◌∙◌, le-ltb, lt-ltb}
 use Rattle.temps.proofs.TableLaws.{let_by}
 use Rattle.temps.proofs.table.is_let.Goals as goal
 

@@ -1,4 +1,4 @@
-use Rattle.std.proofs.Common.{sym, ◌∙◌, rules}
+use Rattle.std.proofs.Common.{sym, ◌∙◌}
 use Rattle.lines.proofs.LfLaws.{rest_of}
 use Rattle.temps.proofs.TableLaws.{key-other, key-is, key-made}
 use Rattle.temps.proofs.table.key_of.Goals as goal

@@ -1,4 +1,3 @@
-use Rattle.std.proofs.Common.{◌-◌}
 use Rattle.temps.proofs.table.may_lead.Goals as goal
 
 pub returns-then-s-lt3 : goal.returns-then-s-lt3
