@@ -7,8 +7,8 @@ use native.Mathlib.Omega.{arith}
 use lib.ListN.{length, take, drop}
 use Rattle.lines.specs.Lf.{up_to, lines_of, parts_of, unlines, same, all}
 use Rattle.lines.specs.Inner.Lf.{lacks, no_lf}
-use Rattle.lines.specs.Acts.{keep, become, into, gone, act, apply}
-use Rattle.lines.proofs.Tests.{no, and_left, and_right, and_both}
+use Rattle.lines.specs.Acts.{keep, become, gone, act, apply}
+use Rattle.lines.proofs.Tests.{and_left, and_right, and_both}
 use Rattle.lines.proofs.LfLaws.{lines-no_lf, lines-unlines, lacks-append, lacks-take, lacks-drop, parts-no_lf}
 use Rattle.lines.proofs.ActLaws.{act_no_lf, apply-no_lf, apply-length}
 use Rattle.text.specs.Trim.{from_of, trim_start, trim_of}

@@ -1,12 +1,12 @@
 -- Laws of the three rounds: what one wrote is the text of the next, and the scratch after them. Assumes nothing.
-use Prim.Native.Nat.{ℕ, zero, suc, ◌+◌, ◌-◌, ◌≤◌, ◌<◌, max}
+use Prim.Native.Nat.{ℕ, ◌-◌, ◌≤◌, max}
 use mathlib.Core.Path.{◌≡◌, refl, sym, ap, ◌∙◌}
 use mathlib.Core.Bool.{Bool, false}
-use mathlib.Core.List.{List, [], ◌∷◌, ◌++◌}
+use mathlib.Core.List.{List}
 use native.Mathlib.Omega.{arith}
-use lib.ListN.{length, take, drop, set, replicate}
+use lib.ListN.{length, take, drop, replicate}
 use Rattle.lines.specs.Lf.{part, lines_of, unlines}
-use Rattle.lines.specs.Inner.Out.{put_at, Wrote}
+use Rattle.lines.specs.Inner.Out.{Wrote}
 use Rattle.lines.proofs.OutLaws.{wrote_as, wrote-part}
 use Rattle.reading.specs.Reading.{Reading}
 use Rattle.phis.specs.Phis.{any_dead, round, prune_dead_phis}

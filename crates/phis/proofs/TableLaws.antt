@@ -4,15 +4,13 @@ use mathlib.Core.Path.{◌≡◌, refl, sym, ap, ◌∙◌}
 use mathlib.Core.Bool.{Bool, true, false, cond, not, ◌&&◌, ◌||◌}
 use mathlib.Core.List.{List, [], ◌∷◌, ◌++◌}
 use native.Mathlib.Omega.{arith}
-use native.Mathlib.Numerals.{add-one}
 use borrow.Author.Tests.{lt-ltb, eq-eqb, ne_eqb, eqb-true, eqb-false}
 use lib.Dec.{eqb, ltb}
-use lib.ListN.{length, drop, get_or, set, replicate, drop_of_length-le}
-use lib.Seq.{drop-cons}
+use lib.ListN.{length, drop, get_or, set, replicate}
 use Rattle.lines.specs.Lf.{part, up_to, lines_of, parts_of, same, holds}
 use Rattle.lines.proofs.Compare.{same-eq}
 use Rattle.lines.proofs.Tests.{no, or-true, or-false, and-false, and_left}
-use Rattle.lines.proofs.LfLaws.{lines-at, lines_end, part-more, part_none}
+use Rattle.lines.proofs.LfLaws.{lines-at, lines_end}
 use Rattle.text.specs.Class.{is_name}
 use Rattle.text.specs.Trim.{trim_start}
 use Rattle.names.specs.Names.{phi_word, phi_text, phi_of, phi_is}
@@ -21,7 +19,7 @@ use Rattle.names.specs.declared.PhiName.{PhiName}
 use Rattle.names.specs.declared.PhiName.TheVariants as name
 use Rattle.names.proofs.Texts.{phi-text-value}
 use Rattle.parse.specs.Parse.{body_of, is_let}
-use Rattle.words.specs.Runs.{flush, runs_go, runs, count_by}
+use Rattle.words.specs.Runs.{flush, runs, count_by}
 use Rattle.words.specs.Inner.Runs.{words_of}
 use Rattle.words.proofs.Walk.{Walk, walk_start, walk-name, walk-gap, walk_end}
 use Rattle.slots.specs.Inner.Slots.{slot_of, entry_of, with_entry}

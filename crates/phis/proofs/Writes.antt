@@ -1,10 +1,10 @@
 -- What the writers of prune_dead_phis write. Assumes nothing.
-use Prim.Native.Nat.{ℕ, suc, ◌+◌, ◌-◌, ◌≤◌, ◌<◌, min}
+use Prim.Native.Nat.{ℕ, ◌+◌, ◌-◌, ◌≤◌, ◌<◌, min}
 use mathlib.Core.Path.{◌≡◌, refl, sym, ap, ◌∙◌}
 use mathlib.Core.Bool.{Bool, true, false, cond, not, ◌&&◌, ◌||◌}
 use mathlib.Core.List.{List, [], ◌∷◌, ◌++◌, append_assoc}
 use native.Mathlib.Omega.{arith}
-use lib.ListN.{length, take, drop, length-take, length-drop, length-append}
+use lib.ListN.{length, take, drop, length-drop, length-append}
 use lib.Seq.{drop-drop, drop-append-add}
 use Rattle.lines.specs.Lf.{part, up_to, lines_of, parts_of, unlines}
 use Rattle.lines.specs.Acts.{become, gone, act, apply}
@@ -13,8 +13,7 @@ use Rattle.lines.proofs.Tests.{no, so}
 use Rattle.lines.proofs.LfLaws.{lines-at, lines_end}
 use Rattle.lines.proofs.ActLaws.{unlines-append}
 use Rattle.lines.proofs.OutLaws.{Writing, writing_start, writing-as, writing-room, writing-put, writing-end}
-use Rattle.text.specs.Trim.{from_of, to_end, trim_start, trim_of}
-use Rattle.text.proofs.Trims.{trim-part}
+use Rattle.text.specs.Trim.{from_of, trim_start, trim_of}
 use Rattle.names.specs.Names.{phi_word, phi_text, phi_of}
 use Rattle.names.specs.declared.Phi.{Phi}
 use Rattle.names.specs.declared.PhiName.{PhiName}

@@ -1,14 +1,14 @@
 -- `prune_dead_phis`: stores of phis that nothing reads go, and their names leave the declarations; at most 3 rounds. Assumes nothing.
-use Rattle.std.specs.Prelude.{ℕ, Bool, true, false, cond, not, ◌&&◌, ◌||◌, List, [], ◌∷◌, ◌++◌, length, take, eqb, ltb}
+use Rattle.std.specs.Prelude.{ℕ, Bool, true, false, cond, not, ◌&&◌, ◌||◌, List, [], ◌∷◌, ◌++◌, length, take, ltb}
 use Prim.Native.Char.{code}
 use Rattle.lines.specs.Ascii.{ascii}
-use Rattle.lines.specs.Lf.{parts_of, prefixed, ends_in}
+use Rattle.lines.specs.Lf.{parts_of}
 use Rattle.lines.specs.Acts.{Act, keep, become, gone, apply}
 use Rattle.text.specs.Trim.{from_of, trim_start, trim_of}
 use Rattle.names.specs.Names.{phi_of, phi_text, phi_is}
 use Rattle.names.specs.declared.PhiName.{PhiName}
 use Rattle.names.specs.declared.PhiName.TheVariants as name
-use Rattle.parse.specs.Parse.{let_word, body_of, is_let}
+use Rattle.parse.specs.Parse.{body_of, is_let}
 use Rattle.lexical.specs.Phi.{phi_rhs_pure}
 use Rattle.words.specs.Hits.{hits}
 use Rattle.decls.specs.Decls.{decl_act}

@@ -26,5 +26,5 @@ returns c =
     let other = so c.phi_rhs_pure.ensures c.if-phi_rhs_pure.false in
     record {
       answer = c.is_pure.ensures ∙ ap is_pure told ∙ sym (ap (λ (b : Bool). pure_in (reading_of a.mode.0) a.x.now || b) other ∙ or-false (pure_in (reading_of a.mode.0) a.x.now));
-      memory = put-past (cut_in strict.result a.x.now) a.scratch.now _ (length a.x.now) (cut-length strict.result a.x.now) purity.ensures.memory
+      memory = put-past (cut_in strict.result a.x.now) a.scratch.now _ (length a.x.now) (cut-length strict.result a.x.now) purity.ensures.memory;
     }

@@ -112,5 +112,5 @@ returns c =
       two = second-wrote h;
       memory = scratch-end _ _ _ _ _ _ _ _ _ put-round.ensures.memory put-round2.ensures.memory put-round3.ensures.memory (put-round3.auto.scratch ∙ put-round2.auto.scratch ∙ put-round.auto.scratch) (longest-fits h) (wipe-end q c.wipe-2.ensures);
       noted = wrote-whole c.wipe.ensures (length-replicate {A = ℕ} (length put-round3.new.table) 0) ∙ ap (λ (n : ℕ). replicate n 0) (put-round3.auto.table ∙ put-round2.auto.table ∙ put-round.auto.table);
-      moves = three-moves R (lines_of t) (lines_of cut.result.now) (lines_of cut2.result.now) e f c.stay_lines.ensures put-round.ensures.moves put-round2.ensures.moves put-round3.ensures.moves
+      moves = three-moves R (lines_of t) (lines_of cut.result.now) (lines_of cut2.result.now) e f c.stay_lines.ensures put-round.ensures.moves put-round2.ensures.moves put-round3.ensures.moves;
     }

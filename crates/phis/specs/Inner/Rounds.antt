@@ -1,5 +1,5 @@
 -- What one round writes of a line, and how much scratch the rounds use. Assumes nothing.
-use Rattle.std.specs.Prelude.{ℕ, max, Bool, false, cond, not, ◌||◌, List, [], ◌∷◌, ◌++◌, length}
+use Rattle.std.specs.Prelude.{ℕ, max, Bool, false, cond, not, ◌||◌, List, [], ◌++◌, length}
 use Rattle.lines.specs.Ascii.{ascii}
 use Rattle.lines.specs.Lf.{lines_of, unlines}
 use Rattle.lines.specs.Acts.{act}

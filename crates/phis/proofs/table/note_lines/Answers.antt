@@ -1,4 +1,3 @@
-use Prim.Native.Nat.{◌-◌}
 use native.Mathlib.Omega.{arith}
 use Rattle.phis.proofs.TableLaws.{lines_start, lines-on, lines-done}
 use Rattle.phis.proofs.table.note_lines.Goals as goal

@@ -1,4 +1,3 @@
-use Prim.Native.Nat.{◌-◌}
 use mathlib.Core.Path.{sym, ◌∙◌}
 use Rattle.phis.proofs.TableLaws.{runs-start, runs-name, run_long, runs-gap, runs-end}
 use Rattle.phis.proofs.table.note_runs.Goals as goal
