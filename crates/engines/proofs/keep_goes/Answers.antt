@@ -1,4 +1,3 @@
-use Prim.Native.Nat.{◌-◌}
 use native.Mathlib.Omega.{arith}
 use Rattle.lines.proofs.OutLaws.{writing-length}
 use Rattle.engines.proofs.EngineLaws.{goes-start, goes-place, goes_on, goes_end}
