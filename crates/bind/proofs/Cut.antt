@@ -16,13 +16,13 @@ use Rattle.names.specs.declared.RegName.{RegName}
 use Rattle.names.specs.declared.RegName.TheVariants as name
 use Rattle.place.specs.Region.{is_header}
 use Rattle.place.specs.Inner.Region.{headed}
-use Rattle.place.specs.Blocks.{blocks, cleaned}
+use Rattle.place.specs.Blocks.{blocks}
 use Rattle.place.specs.Inner.Blocks.{own}
 use Rattle.place.specs.Starts.{starts_go}
 use Rattle.place.proofs.Blocks.{rename, renamed, block_below, next_below, blocks-cut, below-lt, same-renamed, length-blocks}
 use Rattle.place.proofs.Starts.{length-starts, starts_below, starts-cut}
 use Rattle.decls.specs.Decls.{decl_act}
-use Rattle.reading.specs.Reading.{Reading, plain}
+use Rattle.reading.specs.Reading.{Reading}
 use Rattle.reading.proofs.Lined.{Lined}
 use Rattle.reading.specs.Uses.{used_in}
 use Rattle.bind.specs.Bind.{BlockLine, block_lines_of, block_lines, lines_within, until_head, decl_count, store_count, first_use, store_at, bound, bound_by, any_bound, unbound_one, unbound, mark, mark_one, mark_all, marked, pieces_of, promoted, bind_act, above_in, bind_go, bind_declarators_acts, bind_declarators}

@@ -1,4 +1,3 @@
-use Prim.Native.Nat.{◌-◌}
 use Rattle.bind.proofs.WalkLaws.{clear-start, clear_in, clear-on, clear-end, clear-length}
 use Rattle.bind.proofs.clear.Goals as goal
 

@@ -1,13 +1,11 @@
-use Prim.Native.Nat.{ℕ, ◌-◌, ◌≤◌}
+use Prim.Native.Nat.{ℕ}
 use native.Mathlib.Omega.{arith}
-use mathlib.Core.Bool.{◌||◌}
 use mathlib.Core.List.{List}
-use mathlib.Core.Path.{◌≡◌, refl, sym, ap, ◌∙◌}
-use lib.ListN.{length, drop}
-use Rattle.lines.specs.Lf.{parts_of}
+use mathlib.Core.Path.{refl, sym, ap, ◌∙◌}
+use lib.ListN.{length}
 use Rattle.lines.proofs.LfLaws.{find-le}
 use Rattle.names.specs.Names.{reg_of}
-use Rattle.bind.specs.Inner.Steps.{bound_at, mark_row, passes, any_pass, noted_all}
+use Rattle.bind.specs.Inner.Steps.{bound_at, mark_row, passes}
 use Rattle.bind.proofs.SiteLaws.{pass_on, pass-last, noted-length, noted-on, noted-last}
 use Rattle.bind.proofs.mark_names.Goals as goal
 

@@ -1,4 +1,3 @@
-use Prim.Native.Nat.{◌-◌}
 use native.Mathlib.Omega.{arith}
 use Rattle.lines.proofs.OutLaws.{put-start, put_in, put-end, wrote-length}
 use Rattle.bind.proofs.Moves.{moves-many, moves-on}

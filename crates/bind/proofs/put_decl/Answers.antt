@@ -1,4 +1,3 @@
-use Prim.Native.Nat.{◌-◌}
 use native.Mathlib.Omega.{arith}
 use Rattle.lines.proofs.OutLaws.{wrote-length, writing-length}
 use Rattle.lines.proofs.LfLaws.{find-le}

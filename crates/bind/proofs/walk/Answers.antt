@@ -33,7 +33,7 @@ returns c =
       answer = w.ensures.answer;
       memory = w.ensures.memory;
       index = (
-          zeros-again h (length c.args.seen.now) w.new.seen c.wipe.ensures.0 (length_front _ w.new.seen h w.auto.seen) c.wipe-2.ensures.0,
-          zeros-again h (length c.args.first.now) w.new.first c.wipe.ensures.1 (length_front _ w.new.first h w.auto.first) c.wipe-2.ensures.1
+        zeros-again h (length c.args.seen.now) w.new.seen c.wipe.ensures.0 (length_front _ w.new.seen h w.auto.seen) c.wipe-2.ensures.0,
+        zeros-again h (length c.args.first.now) w.new.first c.wipe.ensures.1 (length_front _ w.new.first h w.auto.first) c.wipe-2.ensures.1,
       );
     }

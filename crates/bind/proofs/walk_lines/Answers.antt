@@ -1,11 +1,9 @@
-use Prim.Native.Nat.{◌-◌}
 use mathlib.Core.Path.{refl}
 use native.Mathlib.Omega.{arith}
 use Rattle.records.proofs.Shown.{told-long}
 use Rattle.bind.proofs.WalkLaws.{walk-length, walk-marked}
 use Rattle.bind.proofs.Turns.{viewed-start, viewed-asks, viewed-reach, viewed-here, viewed-on, turn_end, turn-read, turn-line, turn_on}
 use Rattle.bind.proofs.walk_lines.Goals as goal
-
 
 pub stop_by-requires : goal.stop_by-requires
 stop_by-requires c = (told-long c.requires.1.1.told).0

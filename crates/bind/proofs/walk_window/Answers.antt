@@ -3,7 +3,6 @@ use native.Mathlib.Omega.{arith}
 use lib.ListN.{length}
 use Rattle.bind.proofs.walk_window.Goals as goal
 
-
 pub window-recs-requires : goal.window-recs-requires
 window-recs-requires c = tt
 

@@ -1,4 +1,3 @@
-use Prim.Native.Nat.{◌-◌}
 use native.Mathlib.Omega.{arith}
 use Rattle.lines.proofs.LfLaws.{find-le}
 use Rattle.bind.proofs.IndexLaws.{see-start, see-long-d, see-long-u, see-on, see-last-d, see-last-u}
