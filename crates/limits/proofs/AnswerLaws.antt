@@ -1,7 +1,7 @@
 -- Laws of the checks, of the answer, and of what an answer leaves. Assumes nothing.
-use Prim.Native.Nat.{ℕ, ◌+◌, ◌-◌, ◌≤◌, ◌<◌}
+use Prim.Native.Nat.{ℕ, ◌+◌, ◌≤◌, ◌<◌}
 use mathlib.Core.Path.{◌≡◌, refl, sym, ap, ◌∙◌}
-use mathlib.Core.Bool.{Bool, true, false, cond, ◌||◌}
+use mathlib.Core.Bool.{Bool, true, false, cond}
 use mathlib.Core.List.{List, ◌++◌}
 use native.Mathlib.Omega.{arith}
 use borrow.Author.Tests.{lt-ltb, le-ltb, ltb-false, eq-eqb, ne_eqb}
@@ -10,9 +10,9 @@ use native.Mathlib.Nat.{zero-add}
 use lib.ListN.{length, take, drop}
 use Rattle.lines.specs.declared.Crowded as crowd
 use Rattle.lines.specs.declared.Crowded.TheVariants as crowd-is
-use Rattle.lines.specs.Lf.{ends_in, within}
+use Rattle.lines.specs.Lf.{within}
 use Rattle.lines.specs.Inner.Out.{put_at, Wrote}
-use Rattle.lines.specs.Steps.{split_lines, joined, over_from}
+use Rattle.lines.specs.Steps.{split_lines, over_from}
 use Rattle.lines.proofs.Tests.{no}
 use Rattle.text.specs.declared.Utf8 as utf8
 use Rattle.text.specs.declared.Utf8.TheVariants as utf8-is
@@ -24,7 +24,7 @@ use Rattle.flaws.specs.declared.Flaw.TheVariants as flaw-is
 use Rattle.flaws.specs.Flaws.{flaw_of}
 use Rattle.limits.specs.declared.Limits.{Limits}
 use Rattle.limits.specs.declared.Answer.{Answer}
-use Rattle.limits.specs.declared.Answer.TheVariants.{Done, BadPass, TooLong, ShortWork, TooManyLines, Crowded, ShortResult, BadMode, ShortRecords, WideLines}
+use Rattle.limits.specs.declared.Answer.TheVariants.{Done, BadPass, TooLong, ShortWork, TooManyLines, ShortResult, BadMode, ShortRecords, WideLines}
 use Rattle.limits.specs.Answer.{number_of, length_of, place_of, passes_ran, is_done}
 use Rattle.limits.specs.Entry.{small, large, is_wide, by_flaw, by_utf8, by_crowd, checked_lines, checked, records_need, roomed, answer_of, modes, in_mode, whole_answer, pass_answer, blank, work_after, out_after}
 use Rattle.limits.specs.Inner.Sane.{Sane, Within}
