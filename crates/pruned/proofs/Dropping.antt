@@ -34,10 +34,12 @@ in_split (z ∷ xs) ys here f g = f here
 in_split (z ∷ xs) ys (there i) f g = in_split xs ys i (λ k. f (there k)) g
 
 none_in : {A B : Type 0} {x : A} (xs : List A) → length xs ≡ 0 → In x xs → B
+none_in [] e i = elim i [ ]
 none_in (y ∷ ys) e here = absurd (omega arith)
 none_in (y ∷ ys) e (there i) = absurd (omega arith)
 
 none-names : {B : Type 0} {v : ℕ} (ps : List (List ℕ)) → length ps ≡ 0 → Names v ps → B
+none-names [] e n = elim n [ ]
 none-names (p ∷ ps) e (first k) = absurd (omega arith)
 none-names (p ∷ ps) e (later n) = absurd (omega arith)
 
@@ -88,6 +90,7 @@ choices-keep run (p ∷ ps) v u i n = choice-by run ps v u (λ d k m. choices-ke
 reprints-by : {B : Type 0} (indent : List ℕ) (cs : List (List (List ℕ))) {a : Act} → In a (reprints indent cs) → (a ≡ keep → B) → ((c : List (List ℕ)) → In c cs → a ≡ decl_act indent c → B) → B
 unfolding reprints
 reprints-by indent [] here f g = f refl
+reprints-by indent [] (there i) f g = elim i [ ]
 reprints-by indent (c ∷ cs) here f g = g c here refl
 reprints-by indent (c ∷ cs) (there i) f g = reprints-by indent cs i f (λ d k q. g d (there k) q)
 

@@ -1,6 +1,5 @@
 use Rattle.lines.proofs.LfLaws.{find-le}
 use native.Mathlib.Omega.{arith}
-use Prim.Native.Nat.{◌-◌}
 use Rattle.pruned.proofs.CourseCode.{course-start, lo-in, on-here, course-end, course-on, course-stop, course-up}
 use Rattle.pruned.proofs.course.judge_lines.Goals as goal
 

@@ -1,5 +1,4 @@
 use native.Mathlib.Omega.{arith}
-use Prim.Native.Nat.{◌-◌}
 use mathlib.Core.Path.{◌∙◌}
 use Rattle.lines.proofs.Tests.{so}
 use Rattle.pruned.proofs.FarCode.{far-start, far-on}

@@ -1,5 +1,4 @@
 use native.Mathlib.Omega.{arith}
-use Prim.Native.Nat.{◌-◌}
 use Rattle.pruned.proofs.FitCode.{name-start, name-end, name-here, name-on}
 use Rattle.pruned.proofs.fit.find_name.Goals as goal
 

@@ -1,6 +1,6 @@
 use mathlib.Core.Path.{refl, ◌∙◌}
 use native.Mathlib.Omega.{arith}
-use Prim.Native.Nat.{◌+◌, ◌-◌}
+use Prim.Native.Nat.{◌+◌}
 use Rattle.pruned.proofs.FitCode.{fit-start, next-as, fit-past, fit-from, fit-near, fit-in, fit-stop, fit-last, fit_on}
 use Rattle.pruned.proofs.fit.names_fit.Goals as goal
 

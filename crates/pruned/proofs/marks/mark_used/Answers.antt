@@ -6,7 +6,7 @@ use Rattle.lines.proofs.Tests.{so}
 use lib.ListN.{length, drop}
 use mathlib.Core.Bool.{Bool, true, false, cond}
 use mathlib.Core.List.{List}
-use mathlib.Core.Path.{◌≡◌, refl, sym, ◌∙◌}
+use mathlib.Core.Path.{◌≡◌, refl, sym}
 use native.Mathlib.Omega.{arith}
 use Prim.Native.Nat.{ℕ, ◌+◌, ◌-◌, ◌<◌}
 use Rattle.decls.proofs.SeenLaws.{TableInv, table-start, table-new, table-pass, table-region, table-inside, table-says, table_on}

@@ -1,4 +1,3 @@
-use Rattle.place.specs.Region.{region}
 use lib.ListN.{length}
 use Prim.Native.Nat.{◌-◌}
 use Rattle.decls.proofs.SeenLaws.{TableInv}

@@ -5,7 +5,6 @@ use Rattle.lines.specs.Lf.{lines_of}
 use Rattle.names.specs.Names.{reg_of}
 use Rattle.decls.proofs.SeenLaws.{seen-stays}
 use native.Mathlib.Omega.{arith}
-use Prim.Native.Nat.{◌-◌}
 use Rattle.pruned.proofs.MarkCode.{names-start, names-room, names-zeros, names-on, names-end}
 use Rattle.pruned.proofs.marks.put_names.Goals as goal
 

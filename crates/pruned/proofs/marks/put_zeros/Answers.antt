@@ -1,7 +1,6 @@
 use mathlib.Core.Path.{◌≡◌}
 use Rattle.lines.proofs.OutLaws.{wrote-length}
 use native.Mathlib.Omega.{arith}
-use Prim.Native.Nat.{◌-◌}
 use Rattle.pruned.proofs.MarkCode.{zeros-start, zeros-in, zeros-on, zeros-end}
 use Rattle.pruned.proofs.marks.put_zeros.Goals as goal
 

@@ -1,7 +1,5 @@
 use Rattle.lines.proofs.LfLaws.{find-le}
 use native.Mathlib.Omega.{arith}
-use Prim.Native.Nat.{◌-◌}
-use mathlib.Core.Bool.{true, false}
 use mathlib.Core.Path.{◌∙◌}
 use Rattle.pruned.proofs.SeekCode.{seek-start, seek_found, seek-on, seek-end, seek-done}
 use Rattle.pruned.proofs.walk.seek.Goals as goal

@@ -1,6 +1,5 @@
 use Rattle.lines.proofs.LfLaws.{find-le}
 use native.Mathlib.Omega.{arith}
-use Prim.Native.Nat.{◌-◌}
 use Rattle.pruned.proofs.SeekCode.{stretch-start, stretch-known, stretch-on, stretch-done}
 use Rattle.pruned.proofs.walk.stretch.Goals as goal
 

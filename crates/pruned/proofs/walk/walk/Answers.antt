@@ -1,6 +1,5 @@
 use Rattle.lines.proofs.LfLaws.{find-le}
 use native.Mathlib.Omega.{arith}
-use Prim.Native.Nat.{◌-◌}
 use mathlib.Core.Path.{refl}
 use Rattle.pruned.proofs.WalkCode.{walk_start, walk-full, walk-over, walk_end, walk-on}
 use Rattle.pruned.proofs.walk.walk.Goals as goal
