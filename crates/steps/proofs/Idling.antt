@@ -1,6 +1,6 @@
 -- Steps that plainly change nothing: no line goes, and raw moves stay. Assumes nothing.
 use Prim.Native.Nat.{ℕ}
-use mathlib.Core.Path.{◌≡◌, refl, sym, ap, ◌∙◌}
+use mathlib.Core.Path.{◌≡◌, refl, ap, ◌∙◌}
 use mathlib.Core.Bool.{Bool, true, false, cond, not}
 use mathlib.Core.List.{List, [], ◌∷◌}
 use borrow.Author.Tests.{ne_eqb, eqb-true, not-true}
@@ -8,7 +8,7 @@ use lib.Dec.{eqb}
 use lib.ListN.{length, replicate}
 use Rattle.lines.specs.Lf.{all, holds, lines_of}
 use Rattle.lines.specs.Inner.Lf.{lacks}
-use Rattle.lines.specs.Acts.{Act, keep, become, into, gone, apply}
+use Rattle.lines.specs.Acts.{Act, keep, become, into, gone}
 use Rattle.lines.proofs.Tests.{no}
 use Rattle.lines.proofs.ActLaws.{keeps, apply-keep}
 use Rattle.origins.specs.Inner.Codes.{move_of, moves_of}

@@ -1,12 +1,12 @@
 -- Laws of the table of origins: where each line goes in a step, by the tables of moves that the passes hand out. Assumes nothing.
-use Prim.Native.Nat.{ℕ, zero, suc, ◌+◌, ◌-◌, ◌≤◌, ◌<◌}
+use Prim.Native.Nat.{ℕ, zero, suc, ◌≤◌, ◌<◌}
 use mathlib.Core.Path.{◌≡◌, refl, sym, ap, ◌∙◌}
 use mathlib.Core.Bool.{Bool, true, false, cond, ◌&&◌}
 use mathlib.Core.List.{List, [], ◌∷◌}
 use native.Mathlib.Omega.{arith}
 use borrow.Author.Tests.{eq-eqb, ne_eqb, eqb-true}
-use lib.Dec.{eqb, ltb}
-use lib.ListN.{length, take, drop, get_or, replicate, length-take, length-replicate, length-append, get_or-eq_default}
+use lib.Dec.{eqb}
+use lib.ListN.{length, take, drop, replicate, length-take, length-replicate, length-append}
 use Rattle.lines.specs.Lf.{all, parts_of, lines_of, unlines}
 use Rattle.text.specs.Trim.{from_of, trim_of}
 use Rattle.lines.specs.Acts.{Act, keep, become, into, gone, apply}
@@ -30,10 +30,8 @@ use Rattle.reading.specs.Assign.{is_assign, left_of, right_of}
 use Rattle.globals.specs.Globals.{is_globals, globals_acts}
 use Rattle.temps.specs.Temps.{dead_temp, temp_act, temp_acts, prune_dead_temps_acts}
 use Rattle.decls.specs.Decls.{decl_act, keep_names, act_of, acts_go, prune_decls_acts}
-use Rattle.decls.proofs.Passes.{acts-length}
 use Rattle.decls.proofs.Moves.{decl-plain}
 use Rattle.phis.specs.Moves.{prune_dead_phis_acts}
-use Rattle.phis.proofs.Moves.{phis-plain}
 use Rattle.once.specs.Once.{once_acts}
 use Rattle.once.specs.Inner.Tables.{once_marks}
 use Rattle.once.specs.Inner.Moves.{move_marks}
@@ -42,7 +40,7 @@ use Rattle.once.proofs.Moves as once-laws
 use Rattle.calls.specs.LeavesOf.{leaves_of}
 use Rattle.calls.specs.Calls.{rebuild_calls_acts}
 use Rattle.calls.specs.Inner.Tables.{owners_of}
-use Rattle.calls.proofs.Moves.{calls-moves, calls-down}
+use Rattle.calls.proofs.Moves.{calls-moves}
 use Rattle.bind.specs.Bind.{BlockLine, block_lines, until_head, any_bound, unbound, mark_all, marked, pieces_of, promoted, above_in, bind_act, bind_go, bind_declarators_acts}
 use Rattle.bind.specs.Inner.Steps.{bind_notes, note_moves}
 use Rattle.bind.proofs.Moves as bind-laws

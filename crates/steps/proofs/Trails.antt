@@ -2,12 +2,11 @@
 use Prim.Native.Nat.{ℕ, zero, suc, ◌<◌}
 use mathlib.Core.Path.{◌≡◌, refl, sym, ap, ◌∙◌}
 use mathlib.Core.Bool.{Bool, true, false, cond}
-use mathlib.Core.List.{List, [], ◌∷◌}
+use mathlib.Core.List.{List, ◌∷◌}
 use lib.Dec.{eqb}
 use lib.ListN.{length, replicate, length-replicate}
 use Rattle.lines.specs.Lf.{all}
 use Rattle.lines.specs.Acts.{Act, keep, apply}
-use Rattle.lines.proofs.ActLaws.{keeps, apply-keep}
 use Rattle.origins.specs.Fates.{Fate, at, fates_go, fates_of, follow, staying}
 use Rattle.origins.specs.Inner.Codes.{half, moves_of, codes_of, land_go, through, standing}
 use Rattle.origins.proofs.CodeLaws.{sound}
