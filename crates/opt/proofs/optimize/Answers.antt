@@ -8,5 +8,6 @@ pub returns : goal.returns
 returns c =
     let g = c.args in
     let y = mode-lined g.mode in
-    let whole = rw (result-whole (reading_of g.mode) g.text.now, origins-whole y form-is.Ol g.text.now) c.tidy_small.ensures in
-    record { answer = whole.0; memory = whole.1.0; records = whole.1.1 }
+    let w = c.tidy_small.ensures in
+    let q = result-whole (reading_of g.mode) g.text.now in
+    record { answer = rw q w.answer; memory = rw q w.memory; records = rw (origins-whole y form-is.Ol g.text.now) w.records }

@@ -1,4 +1,4 @@
-use borrow.Author.Tests.{leb-true, not-true, not-false}
+use borrow.Author.Tests.{leb-true}
 use native.Mathlib.Omega.{arith}
 use mathlib.Core.Path.{◌∙◌}
 use lib.Dec.{leb}
@@ -21,10 +21,10 @@ returns-then-not-is_pass c =
     let t = g.text.now in
     let xs = result_of (step_of (reading_of g.mode) g.pass) t in
     let s = is_short small (length g.a.now) (length g.b.now) (length g.c.now) (length g.d.now) (length g.e.now) (length g.u.now) in
-    record { answer = pass-bad small form-is.Ol g.pass g.mode s t xs (length g.out.now) (length g.orig.now) (so c.is_pass.ensures (not-true _ c.if-not-is_pass.true)); memory = (out-kept BadPass xs g.out.now bad-done, all-kept small BadPass g.a.now g.b.now g.c.now g.d.now g.e.now g.u.now bad-runs); records = out-kept BadPass _ g.orig.now bad-done }
+    record { answer = pass-bad small form-is.Ol g.pass g.mode s t xs (length g.out.now) (length g.orig.now) (so c.is_pass.ensures c.if-not-is_pass.true); memory = (out-kept BadPass xs g.out.now bad-done, all-kept small BadPass g.a.now g.b.now g.c.now g.d.now g.e.now g.u.now bad-runs); records = out-kept BadPass _ g.orig.now bad-done }
 
 pub overflow_add-pass : goal.overflow_add-pass
-overflow_add-pass c = let k = c.args.pass in omega (arith, leb-true k 6 (and_right (leb 1 k) (leb k 6) (so c.is_pass.ensures (not-false _ c.if-not-is_pass.false))))
+overflow_add-pass c = let k = c.args.pass in omega (arith, leb-true k 6 (and_right (leb 1 k) (leb k 6) (so c.is_pass.ensures c.if-not-is_pass.false)))
 
 pub returns : goal.returns
 returns c =
@@ -34,4 +34,4 @@ returns c =
     let s = is_short small (length g.a.now) (length g.b.now) (length g.c.now) (length g.d.now) (length g.e.now) (length g.u.now) in
     let w = c.tidy_small.ensures in
     let q = result-one (reading_of g.mode) g.pass t in
-    record { answer = (rw q w.answer) ∙ pass-good small form-is.Ol g.pass g.mode s t xs (length g.out.now) (length g.orig.now) (so c.is_pass.ensures (not-false _ c.if-not-is_pass.false)); memory = rw q w.memory; records = rw (origins-one (mode-lined g.mode) form-is.Ol g.pass t) w.records }
+    record { answer = (rw q w.answer) ∙ pass-good small form-is.Ol g.pass g.mode s t xs (length g.out.now) (length g.orig.now) (so c.is_pass.ensures c.if-not-is_pass.false); memory = rw q w.memory; records = rw (origins-one (mode-lined g.mode) form-is.Ol g.pass t) w.records }

@@ -7,5 +7,5 @@ pub returns : goal.returns
 returns c =
     let g = c.args in
     let z : g.n - 0 ≡ g.n = omega arith in
-    let whole = rw (← z) c.tidy_small.ensures in
-    record { answer = whole.0; memory = whole.1.0; records = whole.1.1 }
+    let w = c.tidy_small.ensures in
+    record { answer = rw (← z) w.answer; memory = rw (← z) w.memory; records = rw (← z) w.records }
