@@ -1,18 +1,6 @@
 use Rattle.capi.proofs.Answered.{answered}
 use Rattle.capi.proofs.optlines_optimize.Goals as goal
 
-pub optimize-answer-requires : goal.optimize-answer-requires
-optimize-answer-requires c = tt
-
-pub length_of-requires : goal.length_of-requires
-length_of-requires c = tt
-
-pub place_of-requires : goal.place_of-requires
-place_of-requires c = tt
-
-pub number_of-requires : goal.number_of-requires
-number_of-requires c = tt
-
 pub returns : goal.returns
 returns c =
     let o = c.optimize-answer in

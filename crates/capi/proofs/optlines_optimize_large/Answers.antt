@@ -5,21 +5,6 @@ use Rattle.capi.specs.Called.{tidied_origins, tidy_large_answer}
 use Rattle.capi.proofs.Answered.{answered-large}
 use Rattle.capi.proofs.optlines_optimize_large.Goals as goal
 
-pub form_of-requires : goal.form_of-requires
-form_of-requires c = tt
-
-pub optimize_large-answer-requires : goal.optimize_large-answer-requires
-optimize_large-answer-requires c = tt
-
-pub length_of-requires : goal.length_of-requires
-length_of-requires c = tt
-
-pub place_of-requires : goal.place_of-requires
-place_of-requires c = tt
-
-pub number_of-requires : goal.number_of-requires
-number_of-requires c = tt
-
 pub returns : goal.returns
 returns c =
     let g = c.args in

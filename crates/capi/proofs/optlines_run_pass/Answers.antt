@@ -1,18 +1,6 @@
 use Rattle.capi.proofs.Answered.{answered}
 use Rattle.capi.proofs.optlines_run_pass.Goals as goal
 
-pub run_pass-answer-requires : goal.run_pass-answer-requires
-run_pass-answer-requires c = tt
-
-pub length_of-requires : goal.length_of-requires
-length_of-requires c = tt
-
-pub place_of-requires : goal.place_of-requires
-place_of-requires c = tt
-
-pub number_of-requires : goal.number_of-requires
-number_of-requires c = tt
-
 pub returns : goal.returns
 returns c =
     let o = c.run_pass-answer in
