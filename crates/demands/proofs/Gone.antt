@@ -13,8 +13,7 @@ use Rattle.lines.specs.Acts.{Act, keep, become, into, gone, apply}
 use Rattle.lines.proofs.Tests.{no, and_right}
 use Rattle.text.specs.Trim.{trim_of}
 use Rattle.parse.specs.Parse.{body_of, is_decl}
-use Rattle.origins.specs.declared.Went.{Went}
-use Rattle.origins.specs.declared.Went.TheVariants.{Equal, Changed, Inside, Away}
+use Rattle.origins.specs.declared.Went.TheVariants.{Equal, Changed, Away}
 use Rattle.origins.specs.Fates.{Fate, at, held, lost, taken, fate_at, fates_go, fates_of, onward, follow, staying, went_of, wents_of}
 use Rattle.origins.specs.Thin.{stays}
 use Rattle.origins.proofs.FateLaws.{fates-length, follow-at, follow-assoc, under, Under, under_at}
@@ -24,7 +23,7 @@ use Rattle.reading.specs.Reading.{Reading, reading_of}
 use Rattle.reading.proofs.Lined.{Lined, mode-lined}
 use Rattle.globals.specs.Globals.{is_globals, globals_acts}
 use Rattle.globals.proofs.Laws as globals
-use Rattle.temps.specs.Temps.{temp_act, temp_acts, prune_dead_temps_acts}
+use Rattle.temps.specs.Temps.{temp_acts, prune_dead_temps_acts}
 use Rattle.temps.specs.Inner.Scratch.{temp_goes}
 use Rattle.temps.proofs.Keeps.{temp-act, Dead, goes-dead}
 use Rattle.temps.proofs.PassLaws.{temps-length}
@@ -46,7 +45,7 @@ use Rattle.bind.proofs.Cut.{bind-length}
 use Rattle.bind.proofs.Moves as bind-moves
 use Rattle.bind.proofs.Passes as bind
 use Rattle.steps.specs.Step.{step_of, step_fates}
-use Rattle.steps.proofs.Goings.{Goes, goes-acts, step-goes}
+use Rattle.steps.proofs.Goings.{goes-acts, step-goes}
 use Rattle.steps.proofs.Traces.{once-many}
 use Rattle.passes.specs.Inner.Passes.{steps_of, steps_fates}
 

@@ -17,7 +17,7 @@ use Rattle.origins.specs.declared.Went.TheVariants.{Equal, Changed, Inside, Away
 use Rattle.origins.specs.Form.{Shape, form_shape, gone_of, size_of, records_from, file_of}
 use Rattle.origins.specs.Answers.{fits_out, fits_from}
 use Rattle.origins.specs.Fates.{Fate, at, held, lost, fates_of, follow, staying, went_of, wents_of}
-use Rattle.origins.proofs.FateLaws.{fates-length, follow-assoc, stay-follow, under, Under, nil, cons, stands, count_up}
+use Rattle.origins.proofs.FateLaws.{fates-length, follow-assoc, stay-follow, under, Under, cons, stands, count_up}
 use Rattle.origins.proofs.Tails.{lowers, said_of, said-tail, records-drop}
 use Rattle.place.specs.Inner.Region.{headed}
 use Rattle.place.specs.Inner.Blocks.{own}

@@ -3,7 +3,7 @@
 use Prim.Native.Nat.{ℕ, suc}
 use mathlib.Core.Path.{◌≡◌, refl, sym, ap, ◌∙◌}
 use mathlib.Core.Bool.{Bool, true, false, cond, not, ◌&&◌, ◌||◌}
-use mathlib.Core.List.{List, [], ◌∷◌, ◌++◌}
+use mathlib.Core.List.{List, [], ◌∷◌}
 use borrow.Author.Tests.{eqb-true}
 use lib.Dec.{eqb, ltb}
 use lib.ListN.{length, take, drop}
@@ -24,8 +24,8 @@ use Rattle.reading.specs.Assign.{right_of}
 use Rattle.temps.specs.Temps.{temp_act}
 use Rattle.temps.specs.Inner.Scratch.{temp_goes}
 use Rattle.temps.proofs.Keeps.{goes-dead}
-use Rattle.once.specs.Scratch.{is_member, live_below, called_below, scratch_at, object_of}
-use Rattle.once.specs.Once.{Spot, lines_in, dropped}
+use Rattle.once.specs.Scratch.{is_member, scratch_at, object_of}
+use Rattle.once.specs.Once.{Spot, dropped}
 use Rattle.once.proofs.Reasons.{Reason, as_load, as-dead, dropped-reason}
 use Rattle.phis.specs.Phis.{phi_store, phi_dead}
 use Rattle.phis.proofs.Keeps.{store_goes}

@@ -2,7 +2,7 @@
 -- is place/Numbers `by-numbers`. Assumes nothing.
 use Prim.Native.Nat.{ℕ, zero, suc, ◌<◌}
 use mathlib.Core.Path.{◌≡◌, refl}
-use mathlib.Core.Bool.{Bool, true}
+use mathlib.Core.Bool.{true}
 use mathlib.Core.List.{List, [], ◌∷◌, reverse, reverse_aux}
 use native.Mathlib.Omega.{arith}
 use lib.ListN.{length, take, get_or}
@@ -10,7 +10,7 @@ use Rattle.lexical.specs.Inner.Idents.{ident_words}
 use Rattle.lexical.specs.Joined.{rests_in}
 use Rattle.place.specs.Blocks.{blocks}
 use Rattle.place.specs.Inner.Blocks.{block_ids}
-use Rattle.place.specs.Starts.{starts_after, starts_above, starts_go}
+use Rattle.place.specs.Starts.{starts_above, starts_go}
 use Rattle.reading.specs.Reading.{joined_at, reading_of}
 use Rattle.forms.specs.Breaks.{breaks_with, breaks}
 
