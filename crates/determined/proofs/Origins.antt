@@ -1,5 +1,5 @@
 -- Each public function of crate origins: its contract fixes its outcome. Assumes nothing.
-use mathlib.Core.Path.{refl, sym, ◌∙◌}
+use mathlib.Core.Path.{sym, ◌∙◌}
 use Rattle.lines.proofs.OutLaws.{wrote-once}
 use Rattle.origins.proofs as origins
 use Rattle.origins.specs.contracts as said

@@ -2,8 +2,6 @@
 use mathlib.Core.Path.{◌≡◌, sym, ap, ◌∙◌}
 use Prim.Native.Nat.{ℕ}
 use mathlib.Core.List.{List}
-use Rattle.po.specs.declared.Po.{Po}
-use Rattle.po.specs.declared.Strings.{Strings}
 use Rattle.po.specs.Answers.{po_after, index_after, read_after}
 use Rattle.po.proofs as po
 use Rattle.po.specs.contracts as said

@@ -1,3 +1,2 @@
 // What each public function's contract fixes: theorems alone.
 #![tactic(auto)]
-
