@@ -109,7 +109,6 @@ build() {
     note "for a quick look, in half a minute and unproved, stop this and run: $0 --unproved .."
     { "$root/tools/built" "$name" </dev/null 2>&1; echo "rt: status $?"; } | progress "$count" ||
         die 'not built: target/log/ has what the prover said of each crate'
-    [ -x "$program" ] || die "$name is proved, and its program is not there: remove crates/$name/out and run this again"
 }
 
 # A stand-in for the folder of the toolchain, whose linker keeps the program that it makes.
@@ -141,8 +140,10 @@ build_unproved() {
     note 'building without a proof, about half a minute'
     scratch=$(mktemp -d) || die 'cannot make a temporary folder'
     stand_in "$kit" "$scratch" "$scratch/$name" || die 'cannot make a stand-in for the toolchain'
-    said=$(cd "$root/crates/$name" && "$scratch/bin/rt" try 2>&1 </dev/null)
-    [ -f "$scratch/$name" ] || { printf '%s\n' "$said" >&2; die 'not built: what rt says stands above'; }
+    sample=$root/crates/$name/stdin
+    [ -f "$sample" ] || sample=/dev/null
+    said=$(cd "$root/crates/$name" && "$scratch/bin/rt" try 2>&1 <"$sample" && [ -f "$scratch/$name" ]) ||
+        { printf '%s\n' "$said" >&2; die 'not built: what rt says stands above'; }
     mkdir -p "$root/target/unproved" || die 'cannot make target/unproved'
     mv -f -- "$scratch/$name" "$program" || die 'cannot write target/unproved'
     clean

@@ -8,13 +8,15 @@ use std::io::{Error, Read, Write};
 use std::ops::BitAnd;
 use std::str;
 
-// The system's numbers: for a call that was interrupted, a device that failed, an argument that is missing, one that is too long, and a name that is not
-// UTF-8, which no file is opened by.
+// The system's numbers: for a call that was interrupted, a device that failed, an argument that is missing, a file that cannot be asked to keep what was written,
+// an argument that is too long, and a name that is not UTF-8, which no file is opened by.
 pub const INTERRUPTED: i32 = 4;
 
 const DEVICE: i32 = 5;
 
 const MISSING: i32 = 22;
+
+const NOT_ASKED: i32 = 22;
 
 const TOO_LONG: i32 = 36;
 
@@ -207,12 +209,31 @@ fn open_anew(rt: &HostRuntime, name: &[u8]) -> Opened {
     }
 }
 
+// Whether the system keeps what was written to a file: an error that no write has shown yet comes out here. What keeps nothing, as a pipe or a device, refuses to be
+// asked, and that is no error.
+fn kept(file: &File) -> Sent {
+    match file.sync_all() {
+        Ok(()) => Sent::Whole,
+        Err(e) => {
+            let why = number_of(e);
+            if why == NOT_ASKED {
+                Sent::Whole
+            } else {
+                Sent::Failed(why)
+            }
+        }
+    }
+}
+
 // Writes a text to the file of a name.
 pub fn write_file(rt: &HostRuntime, name: &[u8], text: &[u8]) -> Sent {
     match open_anew(rt, name) {
         Opened::Is(file) => {
             let mut file = file;
-            write_all(&mut file, text)
+            match write_all(&mut file, text) {
+                Sent::Whole => kept(&file),
+                Sent::Failed(why) => Sent::Failed(why),
+            }
         }
         Opened::Failed(why) => Sent::Failed(why),
     }
