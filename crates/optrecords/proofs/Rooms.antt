@@ -1,7 +1,6 @@
 -- How long a room is. Assumes nothing.
 use Prim.Native.Nat.{ℕ}
 use mathlib.Core.Path.{◌≡◌, sym}
-use mathlib.Core.List.{List}
 use lib.ListN.{length, replicate, length-replicate}
 
 pub room-length : (n b : ℕ) → n ≡ length (replicate n b)

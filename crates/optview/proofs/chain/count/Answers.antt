@@ -1,4 +1,3 @@
-use Prim.Native.Nat.{◌-◌}
 use Rattle.optview.proofs.Counts.{count-start, count-stop, count-on, count-end}
 use Rattle.optview.proofs.chain.count.Goals as goal
 
