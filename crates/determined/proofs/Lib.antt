@@ -1,3 +1,4 @@
+pub mod Equations
 pub mod Outcomes
 pub mod Lines
 pub mod Text

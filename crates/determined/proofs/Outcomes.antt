@@ -6,6 +6,7 @@ use base.Logic.{ent, sep, id⊢, via, fst∗, snd∗}
 use contract.Monad.{fact, fact_i, fact_use}
 use contract.Lifetimes.{Lfts}
 use denote.Exit.{Exit, unchanged, leaves, Last}
+use Rattle.determined.proofs.Equations.{also, equations}
 use denote.RattleType.{Denots}
 use denote.Signature.{Slot, types_at}
 use denote.Triple.Entry.{Args, Res}
@@ -58,17 +59,7 @@ outcomes-same {T} {X} {see} {e} d w κs a x y =
     fact_use w.𝓤 (Met T d.claim κs a y) (via w.𝓤 Q (snd∗ w.𝓤 P Q) (d.says w κs a y)) (λ m.
     fact_i w.𝓤 ((x.lasts ≡ y.lasts) × (see κs x.answer ≡ see κs y.answer)) (sep w.𝓤 P Q) (d.once κs a x y l m)))
 
--- ---- the equations that say that two outcomes are the same, one for each `&mut` and one for the answer
-
--- of a value that is bound at exit, an equation; of one that is as it was passed, none
-abbrev pub also : {D : Type 0} (e : Exit D) (d : D) → Last e d → Last e d → List (Type 0) → List (Type 0)
-also unchanged d v w rest = rest
-also (leaves L l S s z) d v w rest = (v ≡ w) ∷ rest
-
--- and so for all arguments
-abbrev pub equations : {n : ℕ} (κs : Lfts n) (ss : List (Slot n)) (ks : Kepts ss) (a : Denots (types_at ss κs)) → Fins κs ss ks a → Fins κs ss ks a → List (Type 0) → List (Type 0)
-equations κs [] ks a v w rest = rest
-equations κs (s ∷ ss) ks a v w rest = also ((s.row κs).exit ks.0) a.0 v.0 w.0 (equations κs ss ks.1 a.1 v.1 w.1 rest)
+-- ---- the equations that say that two outcomes are the same say that they are
 
 also-same : {D : Type 0} (e : Exit D) (d : D) (v w : Last e d) (rest : List (Type 0)) → AllOf (also e d v w rest) → (v ≡ w) × AllOf rest
 also-same unchanged d v w rest p = (refl, p)
