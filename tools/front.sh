@@ -18,9 +18,10 @@ die() { printf '%s: %s\n' "$name" "$*" >&2; exit 2; }
 note() { printf '%s: %s\n' "$name" "$*" >&2; }
 
 # What has to be removed and ended when the script ends, however it ends.
-scratch='' waiter=''
+scratch='' waiter='' lent=''
 clean() {
     hush
+    take_back
     [ -z "$scratch" ] || rm -rf -- "$scratch"
     scratch=
 }
@@ -171,13 +172,62 @@ has_stack() { [ -z "${stack-}" ] || { [ "$(ulimit -s)" != unlimited ] && [ "$(ul
 # Lends the program such a stack, where that is allowed. An emulator takes a number for the limit alone.
 lend_stack() { has_stack || ulimit -S -s "$stack" 2>/dev/null; }
 
+# Whether a word is UTF-8: a program in Rattle opens no file of another name.
+is_text() { # WORD
+    case $1 in
+    *[!\ -~]*) printf %s "$1" | iconv -f UTF-8 -t UTF-8 >/dev/null 2>&1 ;;
+    esac
+}
+
+# Puts the words into $words as the shell reads them back. One that is not UTF-8 is lent to the program as a link to that file.
+lend() { # WORDS..
+    words='' links=0
+    for word in "$@"; do
+        if ! is_text "$word"; then
+            [ -n "$lent" ] || lent=$(mktemp -d) || die 'cannot make a temporary folder'
+            links=$((links + 1))
+            eval "name_$links=\$word"
+            case $word in /*) ;; *) word=$PWD/$word ;; esac
+            ln -s -- "$word" "$lent/$links" || die 'cannot make a link in a temporary folder'
+            word=$lent/$links
+        fi
+        words="$words$(quoted "$word")"
+    done
+}
+
+# Names the files themselves in what the program said, and not the links.
+name_again() {
+    while [ "$links" -gt 0 ]; do
+        eval "word=\$name_$links"
+        told='' left_said=$said
+        while :; do
+            case $left_said in
+            *"$lent/$links"*) ;;
+            *) break ;;
+            esac
+            told=$told${left_said%%"$lent/$links"*}$word
+            left_said=${left_said#*"$lent/$links"}
+        done
+        said=$told$left_said links=$((links - 1))
+    done
+    take_back
+}
+
+take_back() {
+    [ -z "$lent" ] || rm -rf -- "$lent"
+    lent=
+}
+
 # Runs the program, its standard output going where this function's goes. What it says is kept, and a status is made of it. A reader that
 # went away is an error of the write, and no signal.
 run() { # WORDS..
+    lend "$@"
+    eval "set -- $words"
     watch
     { said=$({ trap '' PIPE; lend_stack || :; "$runner" "$program" "$@" >&3 3>&-; } 2>&1); } 3>&1
     ended=$?
     hush
+    name_again
     case $ended-$said in
     0-) return 0 ;;
     0-"$name: refused "*) return 1 ;;
