@@ -10,7 +10,7 @@
 #   installed           PREFIX/bin/NAME (the script; here is PREFIX/bin), and in PREFIX/libexec/optlines/ the files front.sh, run-built,
 #                       VERSION, TOOLCHAIN and NAME (the program). Nothing is built then.
 #
-# A program in Rattle has no exit status of its own. What it says on standard error decides: nothing is 0, a first line that begins
+# The programs set no exit status. What one says on standard error decides: nothing is 0, a first line that begins
 # `NAME: refused ` is 1, anything else is 2. Every message of a program or of this file has fixed words in front of a file's name.
 
 die() { printf '%s: %s\n' "$name" "$*" >&2; exit 2; }

@@ -1,6 +1,6 @@
 // Checks a supplier's pruning: `optcheck RAW PRUNED`. It writes `accepted`, or `refused`, the number and the place, to standard output.
 // On standard error it says nothing where it accepts, `optcheck: refused ..` first where it refuses, and anything else where it could not
-// read or write: a program in Rattle sets no exit status, so a script makes one of that.
+// read or write: it sets no exit status, so a script makes one of that.
 #![tactic(auto)]
 
 mod against;

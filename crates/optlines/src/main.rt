@@ -1,6 +1,6 @@
 // Tidies a listing: `optlines [--strict] [--joined] [--pass N] [--origins RECORDS] [--] [FILE]`, the options in any order. It reads FILE, or
 // standard input, and writes the tidy listing, or `refused`, the number and the place, to standard output, and the records of a tidy one to RECORDS. On standard error it says nothing where it tidied, `optlines: refused ..` first where it refused, and
-// anything else where it could not read or write: a program in Rattle sets no exit status, so tools/front.sh makes one of that.
+// anything else where it could not read or write: it sets no exit status, so tools/front.sh makes one of that.
 #![tactic(auto)]
 
 ghost use Rattle.std.specs.Prelude.{◌≡◌, length};

@@ -1,7 +1,7 @@
 // Writes a record file in a form: `optrecords OL` or `optrecords OM`. It reads a file of either form from standard input, told by its first
 // mark, and writes it in the form that is asked for, or `refused`, the number and the place, to standard output. On standard error it says
-// nothing where it wrote the file, `optrecords: refused ..` first where it refused, and anything else where it could not read or write: a
-// program in Rattle sets no exit status, so tools/front.sh makes one of that.
+// nothing where it wrote the file, `optrecords: refused ..` first where it refused, and anything else where it could not read or write: it
+// sets no exit status, so tools/front.sh makes one of that.
 #![tactic(auto)]
 
 mod tell;

@@ -1,6 +1,6 @@
 // Shows a listing beside what it becomes: `optview [--text] [--strict] [--joined] [--] [FILE]`. It reads FILE, or standard input, and writes a page in HTML, or with
 // `--text` plain text, to standard output. On standard error it says nothing where it showed the listing, `optview: refused ..` first where that was
-// refused, and anything else where it could not read or write: a program in Rattle sets no exit status, so tools/front.sh makes one of that.
+// refused, and anything else where it could not read or write: it sets no exit status, so tools/front.sh makes one of that.
 #![tactic(auto)]
 
 mod asked;

@@ -1,7 +1,7 @@
 // Says which raw lines are behind a tidy line: `optwhere RECORDS LINE` writes a number a line, and `optwhere --vim RAW RECORDS LINE` the name
 // of RAW, the number and the text. It writes `refused`, the number and the place to standard output where the records are not right. On
 // standard error it says nothing where it answered, `optwhere: refused ..` first where it refused, and anything else where it could not read
-// or write: a program in Rattle sets no exit status, so tools/front.sh makes one of that.
+// or write: it sets no exit status, so tools/front.sh makes one of that.
 #![tactic(auto)]
 
 mod asked;
