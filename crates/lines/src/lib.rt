@@ -48,14 +48,12 @@ pub fn cut(s: &[u8], a: usize, e: usize) -> &[u8]
 fn find_one(s: &[u8], i: usize, b: u8) -> usize
     ensures { result ≡ i + up_to b (drop i s.now) }
 {
-    let mut j = i;
-    while j < s.len() {
+    for j in i..s.len() {
         if s[j] == b {
             return j;
         }
-        j += 1;
     }
-    j
+    i.max(s.len())
 }
 
 // A byte as a number of 64 bits.
@@ -126,14 +124,12 @@ fn start_one(s: &[u8], e: usize) -> usize
     requires { e ≤ length s.now }
     ensures { result ≡ line_start s.now e }
 {
-    let mut j = e;
-    while 0 < j {
-        if s[j - 1] == 10 {
-            return j;
+    for j in (0..e).rev() {
+        if s[j] == 10 {
+            return j + 1;
         }
-        j -= 1;
     }
-    j
+    0
 }
 
 // Where the line begins that ends at `e`: after the last LF before it, or at the front. By eight bytes, as long as these lack LF; the zeros above the last mark say how many bytes stand after it.
@@ -158,13 +154,9 @@ fn count_few(s: &[u8], b: u8) -> u8
     ensures { result ≡ count_of b s.now }
 {
     let mut n = 0;
-    let mut i = 0;
-    while i < s.len() {
-        if s[i] == b {
+    for &x in s {
+        if x == b {
             n += 1;
-            i += 1;
-        } else {
-            i += 1;
         }
     }
     n
@@ -193,13 +185,9 @@ pub fn lacks(s: &[u8], b: u8) -> bool
     ensures { result ≡ lacks b s.now }
 {
     let mut none = true;
-    let mut i = 0;
-    while i < s.len() {
-        if s[i] == b {
+    for &x in s {
+        if x == b {
             none = false;
-            i += 1;
-        } else {
-            i += 1;
         }
     }
     none

@@ -1,15 +1,16 @@
-use Rattle.std.proofs.Common.{◌-◌, zero-add, arith}
+use Rattle.std.proofs.Common.{arith}
 use Rattle.lines.proofs.LfLaws.{count-here, count-on, count-end}
 use Rattle.lines.proofs.count_few.Goals as goal
+use Rattle.lines.proofs.count_few.Goals.{then-x-b, else-x-b}
 
-pub loop-i-init : goal.loop-i-init
-loop-i-init c = (omega arith, (omega arith, zero-add _))
-
-pub loop-i-preserved-then-s-i : goal.loop-i-preserved-then-s-i
-loop-i-preserved-then-s-i c = let a = c.args in let l = c.loop-i in (omega arith, (omega arith, omega (arith, count-here a.b a.s.now l.i (omega arith) c.if-s-i.true, l.invariant.1.1)))
-
-pub loop-i-preserved : goal.loop-i-preserved
-loop-i-preserved c = let a = c.args in let l = c.loop-i in (omega arith, (omega arith, omega (arith, count-on a.b a.s.now l.i (omega arith) c.if-s-i.false, l.invariant.1.1)))
+pub loop-x-preserved : goal.loop-x-preserved
+loop-x-preserved c =
+    let a = c.args in
+    let i = c.loop-x.x-index in
+    elim c.if-x-b.branch [
+      then-x-b w ↦ let h = count-here a.b a.s.now i c.loop-x-test.true w.if-x-b.true in (omega arith, omega arith)
+    | else-x-b w ↦ let h = count-on a.b a.s.now i c.loop-x-test.true w.if-x-b.false in (omega arith, omega arith)
+    ]
 
 pub returns : goal.returns
-returns c = let a = c.args in let l = c.loop-i in omega (arith, count-end a.b a.s.now l.i c.loop-i-test.false, l.invariant.1.1)
+returns c = omega (arith, count-end c.args.b c.args.s.now c.loop-x.x-index c.loop-x-test.false)

@@ -1,9 +1,6 @@
-use Rattle.std.proofs.Common.{◌≡◌, ◌-◌, ◌&&◌, length, drop}
+use Rattle.std.proofs.Common.{◌≡◌, ◌&&◌, drop}
 use Rattle.lines.specs.Inner.Lf.{lacks}
 use Rattle.lines.proofs.lacks.Given as goal
 
-abbrev pub invariant-loop-i : goal.invariant-loop-i
-invariant-loop-i l = (l.none && lacks l.b (drop l.i l.s)) ≡ lacks l.b l.s
-
-abbrev pub decreases-loop-i : goal.decreases-loop-i
-decreases-loop-i l = length l.s - l.i
+abbrev pub invariant-loop-x : goal.invariant-loop-x
+invariant-loop-x l = (l.none && lacks l.b (drop l.x-index l.s)) ≡ lacks l.b l.s
