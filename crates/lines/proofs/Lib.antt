@@ -10,4 +10,5 @@ mod Whole
 pub mod Counts
 pub mod JoinLaws
 pub mod ActLaws
+pub mod EachLaws
 pub mod Examples

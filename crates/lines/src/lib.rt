@@ -1,6 +1,8 @@
 // Bytes and parts of them, LF form, writing into a lent buffer, and the first and the last step.
 #![tactic(auto)]
 
+pub mod each;
+
 ghost use Rattle.std.specs.Prelude.{◌≡◌, ℕ, ◌+◌, ◌/◌, ◌<◌, ◌≤◌, min, [], ◌∷◌, ◌++◌, length, take, drop, replicate, slice_index};
 ghost use Rattle.std.specs.Int.Count.{count_trailing_zeros};
 ghost use Rattle.lines.specs.Lf.{part, up_to, count_of, word, prefixed, suffixed, same, holds, ends_in, lines_of, unlines};
@@ -543,14 +545,11 @@ fn first_over(text: &[u8], most: usize, b: u8) -> Crowded
     ensures { result ≡ over_from most b 0 (lines_of text.now) }
 {
     let mut n = 0;
-    let mut i = 0;
-    while i < text.len() {
-        let e = find_byte(text, i, 10);
-        if most < count_byte(&text[i..e], b) {
+    for line in each::each(text) {
+        if most < count_byte(line.bytes, b) {
             return Crowded::At(n);
         }
         n += 1;
-        i = after(text, e);
     }
     Crowded::Nowhere
 }
