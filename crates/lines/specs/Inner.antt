@@ -1,4 +1,4 @@
 pub mod Each
 pub mod Lf
 pub mod Out
-pub mod Each
+pub mod Pieces

@@ -1,6 +1,7 @@
 // Bytes and parts of them, LF form, writing into a lent buffer, and the first and the last step.
 #![tactic(auto)]
 
+mod between;
 pub mod each;
 
 ghost use Rattle.std.specs.Prelude.{◌≡◌, ℕ, ◌+◌, ◌/◌, ◌<◌, ◌≤◌, min, [], ◌∷◌, ◌++◌, length, take, drop, replicate, slice_index};
@@ -9,6 +10,8 @@ ghost use Rattle.lines.specs.Lf.{part, up_to, count_of, word, prefixed, suffixed
 ghost use Rattle.lines.specs.Inner.Lf.{line_start, marks, lacks};
 ghost use Rattle.lines.specs.Inner.Out.{Wrote};
 ghost use Rattle.lines.specs.Steps.{drop_cr, split_lines, joined, over_from};
+
+pub use between::{PiecesLeft, pieces};
 
 // The byte at a place, or 0 past the end.
 pub fn byte_at(s: &[u8], i: usize) -> u8
