@@ -1,5 +1,6 @@
 pub mod Tests
 pub mod LfLaws
+pub mod Chains
 pub mod Words8
 pub mod Starts
 pub mod Compare

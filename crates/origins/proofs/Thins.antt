@@ -1,11 +1,12 @@
 -- Laws of acts after acts, and of their moves in one table. Assumes nothing.
-use Prim.Native.Nat.{ℕ, zero, suc, ◌+◌, ◌≤◌, ◌<◌}
+use Prim.Native.Nat.{ℕ, zero, suc, ◌+◌, ◌-◌, ◌≤◌, ◌<◌}
 use mathlib.Core.Path.{◌≡◌, refl, sym, ap, ◌∙◌}
 use mathlib.Core.Bool.{Bool, true, false, cond}
 use mathlib.Core.List.{List, [], ◌∷◌, ◌++◌, append_assoc}
 use native.Mathlib.Omega.{arith}
 use borrow.Author.Tests.{eqb-true}
 use lib.Dec.{eqb}
+use Rattle.std.proofs.Common.{take_all}
 use lib.ListN.{length, take, drop, replicate, length-append, length-drop}
 use lib.Seq.{drop-drop, take-add, take_at, drop_at, length-take-le}
 use Rattle.lines.specs.Acts.{Act, keep, become, into, gone, act, apply}
@@ -178,6 +179,14 @@ stand-some (y ∷ l) h = go (eqb y 0) h (stand-some l)
 -- there is one from k on
 pub next-in : (m : List ℕ) (k j : ℕ) → 0 < standing (drop k m) → j ≡ k + up_to 0 (drop k m) → j < length m
 next-in m k j h q = omega (arith, stand-some (drop k m) h, length-drop k m)
+
+pub k-in : (m : List ℕ) (k : ℕ) → 0 < standing (drop k m) → k < length m
+k-in m k h = omega (arith, next-in m k _ h refl)
+
+pub next-at : (m : List ℕ) (k r : ℕ) → r ≡ up_to 0 (take (length m - k) (drop k m)) → k + r ≡ k + up_to 0 (drop k m)
+next-at m k r q =
+    let e : length (drop k m) ≤ length m - k = omega (arith, length-drop k m) in
+    ap (λ (n : ℕ). k + n) (q ∙ ap (up_to 0) (take_all (length m - k) (drop k m) e))
 
 -- it is noted
 module _ {m m' : List ℕ} {x r : ℕ} (k : ℕ) (h : 0 < standing (drop k m)) (w : Wrote m (k + up_to 0 (drop k m)) (x ∷ []) m' r) where

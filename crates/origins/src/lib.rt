@@ -75,18 +75,11 @@ pub fn stay_lines(text: &[u8], moves: &mut [usize], k: usize) -> usize
     stay(moves, k, n)
 }
 
-// The next line from `k` on that stands; where there is none, the place after all.
-fn next_standing(moves: &[usize], k: usize) -> usize
-    ensures { result ≡ k + up_to 0 (drop k moves.now) }
+// The first line that stands; where there is none, the place after all.
+fn first_standing(moves: &[usize]) -> usize
+    ensures { result ≡ up_to 0 moves.now }
 {
-    let mut j = k;
-    while j < moves.len() {
-        if moves[j] == 0 {
-            return j;
-        }
-        j += 1;
-    }
-    j
+    moves.iter().position(|m| *m == 0).unwrap_or(moves.len())
 }
 
 // The same as `note`, of the next line from `k` on that stands.
@@ -94,7 +87,7 @@ pub fn note_next(moves: &mut [usize], k: usize, o: usize, p: usize) -> usize
     requires { 0 < standing (drop k moves.old) }
     ensures { Wrote moves.old (k + up_to 0 (drop k moves.old)) (note_of o p ∷ []) moves.new result }
 {
-    let j = next_standing(moves, k);
+    let j = k + first_standing(&moves[k..]);
     note(moves, j, o, p)
 }
 
@@ -102,17 +95,7 @@ pub fn note_next(moves: &mut [usize], k: usize, o: usize, p: usize) -> usize
 pub fn count_standing(moves: &[usize]) -> usize
     ensures { result ≡ standing moves.now }
 {
-    let mut n = 0;
-    let mut i = 0;
-    while i < moves.len() {
-        if moves[i] == 0 {
-            n += 1;
-            i += 1;
-        } else {
-            i += 1;
-        }
-    }
-    n
+    moves.iter().filter(|m| **m == 0).count()
 }
 
 // The code of what was taken into a line of the code `c`.

@@ -1,0 +1,24 @@
+-- Our words for the first b and for how many there are, as std says them of a chain of iterators. Assumes nothing.
+use Rattle.std.proofs.Common.{◌≡◌, ℕ, zero, suc, ◌+◌, ◌<◌, ◌≤◌, Bool, true, false, cond, ◌==◌, List, [], ◌∷◌, length, refl, sym, ◌∙◌, arith}
+use Rattle.std.specs.Prelude.{position, count_by, unwrap_or, None, Some, nat_lt}
+use Rattle.std.specs.List.{position_or_len}
+use Rattle.std.proofs.lemmas.List.Recursion.{is_position_or_len, is_count_by}
+use Rattle.lines.proofs.LfLaws.{up_to-le}
+use Rattle.lines.specs.Lf.{up_to, count_of}
+
+pub up_to_is_first : (b : ℕ) (s : List ℕ) → up_to b s ≡ position_or_len (λ x. x == b) s
+unfolding up_to
+up_to_is_first b s = is_position_or_len (up_to b) (λ x. x == b) refl (λ x xs. grind arith) s
+
+pub count_of_is_count : (b : ℕ) (s : List ℕ) → count_of b s ≡ count_by (λ x. x == b) s
+unfolding count_of
+count_of_is_count b s = is_count_by (count_of b) (λ x. x == b) refl (λ x xs. grind arith) s
+
+-- `iter().position(..).unwrap_or(s.len())`
+first_or_all : (p n : ℕ) → p ≤ n → unwrap_or (cond (nat_lt p n) (Some p) None) n ≡ p
+first_or_all p n h = grind arith
+
+pub position_is_up_to : (b : ℕ) (s : List ℕ) → unwrap_or (position (λ x. x == b) s) (length s) ≡ up_to b s
+position_is_up_to b s =
+    let e = up_to_is_first b s in
+    first_or_all (position_or_len (λ x. x == b) s) (length s) (omega (arith, e, up_to-le b s)) ∙ sym e
