@@ -120,6 +120,18 @@ writing-end w = wrote_as (sym (append-nil w.done) ∙ w.so_far) w.wrote
 
 -- ---- the loop of `put_each`
 
+pub each-start : (d : List ℕ) (o : ℕ) → o ≤ length d → Wrote d o [] d (o + 0)
+each-start d o h = let e : o ≡ o + 0 = omega arith in subst (λ (n : ℕ). Wrote d o [] d n) e (wrote-nil d o h)
+
+-- a byte of t more
+pub each-more : (t : List ℕ) {d₀ d : List ℕ} (o j : ℕ) → o + length t ≤ length d₀ → j < length t → Wrote d₀ o (take j t) d (o + j) → Wrote d₀ o (take (j + 1) t) (set d (o + j) (get_or t j 0)) (o + (j + 1))
+each-more t {d₀} {d} o j r l w =
+    let e : o + j + 1 ≡ o + (j + 1) = omega arith in
+    let c : take j t ++ (get_or t j 0 ∷ []) ≡ take (j + 1) t = sym (ap (λ (n : ℕ). take n t) (add-one j) ∙ take-suc t j 0 l) in
+    subst (λ (n : ℕ). Wrote d₀ o (take (j + 1) t) (set d (o + j) (get_or t j 0)) n) e (wrote_as c (wrote-more (get_or t j 0) w (omega (arith, wrote-length w))))
+
+-- ---- a loop that writes a list entry by entry
+
 pub record PutInv (t d₀ d : List ℕ) (o j p : ℕ) : Type 0 where
   pub j≤ : j ≤ length t
   pub room : o + length t ≤ length d₀

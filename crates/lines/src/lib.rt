@@ -175,12 +175,8 @@ pub fn count_byte(s: &[u8], b: u8) -> usize
     ensures { result ≡ count_of b s.now }
 {
     let mut n = 0;
-    let mut i = 0;
-    while i < s.len() {
-        let e = least(i + COUNTED, s.len());
-        let k = count_few(&s[i..e], b);
-        n += k as usize;
-        i = e;
+    for part in s.chunks(COUNTED) {
+        n += count_few(part, b) as usize;
     }
     n
 }
@@ -205,12 +201,10 @@ pub fn starts_with(s: &[u8], p: &[u8]) -> bool
     if s.len() < p.len() {
         return false;
     }
-    let mut i = 0;
-    while i < p.len() {
+    for i in 0..p.len() {
         if p[i] != s[i] {
             return false;
         }
-        i += 1;
     }
     true
 }
@@ -314,14 +308,10 @@ fn put_each(out: &mut [u8], o: usize, t: &[u8]) -> usize
     requires { o + length t.now ≤ length out.old }
     ensures { Wrote out.old o t.now out.new result }
 {
-    let mut p = o;
-    let mut j = 0;
-    while j < t.len() {
-        out[p] = t[j];
-        p += 1;
-        j += 1;
+    for j in 0..t.len() {
+        out[o + j] = t[j];
     }
-    p
+    o + t.len()
 }
 
 // Writes `t` at `o`, and returns the place after it.
@@ -483,14 +473,10 @@ fn put_bytes(text: &[u8], out: &mut [u8]) -> usize
     requires { length (drop_cr text.now) ≤ length out.old }
     ensures { Wrote out.old 0 (drop_cr text.now) out.new result }
 {
-    let mut i = 0;
     let mut o = 0;
-    while i < text.len() {
-        if cr_lf(text, i) {
-            i += 1;
-        } else {
+    for i in 0..text.len() {
+        if !cr_lf(text, i) {
             o = put_byte(out, o, text[i]);
-            i += 1;
         }
     }
     o

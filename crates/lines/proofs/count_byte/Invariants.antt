@@ -1,9 +1,7 @@
-use Rattle.std.proofs.Common.{◌≡◌, ◌+◌, ◌-◌, ◌≤◌, length, drop}
+use Rattle.std.proofs.Common.{◌≡◌, ◌+◌, ◌≤◌, length}
+use Rattle.std.specs.Slice.Iter.{chunks_rest}
 use Rattle.lines.specs.Lf.{count_of}
 use Rattle.lines.proofs.count_byte.Given as goal
 
-abbrev pub invariant-loop-i : goal.invariant-loop-i
-invariant-loop-i l = (l.n ≤ l.i) × ((l.i ≤ length l.s) × (l.n + count_of l.b (drop l.i l.s) ≡ count_of l.b l.s))
-
-abbrev pub decreases-loop-i : goal.decreases-loop-i
-decreases-loop-i l = length l.s - l.i
+abbrev pub invariant-loop-part : goal.invariant-loop-part
+invariant-loop-part l = (l.n + length (chunks_rest l.part-iterator) ≤ length l.s) × (l.n + count_of l.b (chunks_rest l.part-iterator) ≡ count_of l.b l.s)
