@@ -1,5 +1,5 @@
 -- What a loop over the lines of a text knows at each of them.
-use Rattle.std.proofs.Common.{ℕ, ◌≡◌, ◌≤◌, List, length, ◌∙◌, ap, subst, arith}
+use Rattle.std.proofs.Common.{ℕ, ◌≡◌, ◌≤◌, List, length, ◌∙◌, sym, ap, subst, arith}
 use Rattle.lines.specs.declared.each.Line.{Line}
 use Rattle.lines.specs.declared.each.Lines.{Lines}
 use Rattle.lines.specs.Inner.Each.{IsLine}
@@ -23,3 +23,10 @@ goes {text = text} {s = s} {t = t} {line = line} h k =
 -- where it gives none, it stands at the end
 pub stops : {text : List ℕ} {s t : Lines} → Over text s → (t.text ≡ s.text) × ((length s.text.now ≤ s.at) × (t.at ≡ s.at)) → length text ≤ s.at
 stops {s = s} h k = subst (λ (x : List ℕ). length x ≤ s.at) h.text≡ k.1.0
+
+-- where it begins
+pub at-front : {text : List ℕ} {s r : Lines} → s ≡ r → r.text.now ≡ text → r.at ≡ 0 → Over text s
+at-front {text = text} {s = s} {r = r} k e z = subst (λ (x : Lines). Over text x) (sym k) (record { text≡ = e; at≤ = omega arith })
+
+pub at-place : {text : List ℕ} {s r : Lines} {i : ℕ} → s ≡ r → r.text.now ≡ text → r.at ≡ i → i ≤ length text → Over text s
+at-place {text = text} {s = s} {r = r} k e z h = subst (λ (x : Lines). Over text x) (sym k) (record { text≡ = e; at≤ = omega arith })

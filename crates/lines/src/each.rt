@@ -48,3 +48,11 @@ pub fn each(text: &[u8]) -> Lines<'_>
 {
     Lines { text, at: 0 }
 }
+
+// The lines of a text from a place on.
+pub fn from(text: &[u8], at: usize) -> Lines<'_>
+    ensures text { result.text.now ≡ text.now }
+    ensures place { result.at ≡ at }
+{
+    Lines { text, at }
+}

@@ -76,15 +76,12 @@ pub fn region_end(text: &[u8], i: usize) -> usize
         return i;
     }
     let e = lines::find_byte(text, i, 10);
-    let mut j = lines::after(text, e);
-    while j < text.len() {
-        let f = lines::find_byte(text, j, 10);
-        if is_header(&text[j..f]) {
-            return j;
+    for line in lines::each::from(text, lines::after(text, e)) {
+        if is_header(line.bytes) {
+            return line.from;
         }
-        j = lines::after(text, f);
     }
-    j
+    text.len()
 }
 
 // The region of a line, given that of the line above; the largest number there is stays.
@@ -305,27 +302,23 @@ pub fn place_lines(
         × (Filled up.old (ids_parents (rests_in joined (lines_of text.now))) up.new (length (ids_parents (rests_in joined (lines_of text.now)))))) }
     ensures ends { Filled ends.old (end_marks 0 (lines_of text.now)) ends.new result }
 {
-    let mut i = 0;
     let mut k = 0;
     let mut c = 0;
     let mut n = 0;
     let mut st = true;
     let mut above = lexical::Open::Nothing;
-    while i < text.len() {
-        let e = lines::find_byte(text, i, 10);
-        let line = &text[i..e];
-        ends[k] = end_mark(line, e);
+    for line in lines::each::each(text) {
+        ends[k] = end_mark(line.bytes, line.to);
         blocks[k] = wide(c);
         starts[k] = flag(st);
         k += 1;
-        let rest = lexical::rest_in(joined, line, above);
+        let rest = lexical::rest_in(joined, line.bytes, above);
         let from = rest.from;
-        let x = walk_line(&line[from..], c, up, n);
+        let x = walk_line(&line.bytes[from..], c, up, n);
         c = x.block;
         n = x.next;
         st = starts_after(x.last, st);
         above = rest.below;
-        i = lines::after(text, e);
     }
     k
 }
@@ -465,18 +458,15 @@ fn walk_loops(text: &[u8], flags: &mut [u8]) -> usize
     requires { length (lines_of text.now) ≤ length flags.old }
     ensures { Filled flags.old (flags_of (inside_loop (lines_of text.now))) flags.new result }
 {
-    let mut i = 0;
     let mut k = 0;
     let mut d = 0;
     let mut o = 0;
-    while i < text.len() {
-        let e = lines::find_byte(text, i, 10);
+    for line in lines::each::each(text) {
         flags[k] = flag(o != 0);
         k += 1;
-        let x = nest_line(text::trim(&text[i..e]), d, o);
+        let x = nest_line(text::trim(line.bytes), d, o);
         d = x.depth;
         o = x.outer;
-        i = lines::after(text, e);
     }
     k
 }
@@ -587,21 +577,18 @@ pub fn block_paths(text: &[u8], table: &mut [usize], up: &mut [u32], ends: &mut 
     ensures loops { result.loops ≡ some_loop (lines_of text.now) }
     ensures ends { ends.new ≡ ends_from 0 0 (lines_of text.now) ends.old }
 {
-    let mut i = 0;
     let mut k = 0;
     let mut c = 0;
     let mut n = 0;
     let mut loops = false;
-    while i < text.len() {
-        let e = lines::find_byte(text, i, 10);
-        put_end(k, e, ends);
-        let x = path_line(&text[i..e], c, up, n, loops);
+    for line in lines::each::each(text) {
+        put_end(k, line.to, ends);
+        let x = path_line(line.bytes, c, up, n, loops);
         table[k] = wide(x.top);
         k += 1;
         c = x.block;
         n = x.next;
         loops = x.loops;
-        i = lines::after(text, e);
     }
     Pathed { rows: k, loops }
 }
@@ -616,18 +603,15 @@ struct Ahead {
 fn find_loop(text: &[u8]) -> Ahead
     ensures { (result.found ≡ some_loop (lines_of text.now)) × (result.rows ≡ above_loop (lines_of text.now)) }
 {
-    let mut i = 0;
     let mut k = 0;
-    while i < text.len() {
-        let e = lines::find_byte(text, i, 10);
-        if starts_loop(&text[i..e]) {
+    for line in lines::each::each(text) {
+        if starts_loop(line.bytes) {
             return Ahead {
                 found: true,
                 rows: k,
             };
         }
         k += 1;
-        i = lines::after(text, e);
     }
     Ahead {
         found: false,

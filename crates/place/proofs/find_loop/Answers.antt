@@ -1,34 +1,20 @@
 use mathlib.Core.Path.{sym, ◌∙◌}
 use native.Mathlib.Omega.{arith}
-use Rattle.lines.proofs.LfLaws.{find-le}
 use Rattle.place.proofs.Quiet.{ahead-start, ahead-here, ahead-on, ahead-end}
+use Rattle.lines.proofs.EachLaws.{at-front, goes, stops}
 use Rattle.place.proofs.find_loop.Goals as goal
 
-pub loop-i-init : goal.loop-i-init
-loop-i-init c = ahead-start c.args.text.now
-
-pub slice_bounds-starts_loop-count : goal.slice_bounds-starts_loop-count
-slice_bounds-starts_loop-count c = omega (arith, c.find_byte-e.ensures)
-
-pub slice_bounds-starts_loop-start : goal.slice_bounds-starts_loop-start
-slice_bounds-starts_loop-start c = omega (arith, c.find_byte-e.ensures)
-
-pub slice_bounds-starts_loop-end : goal.slice_bounds-starts_loop-end
-slice_bounds-starts_loop-end c = omega (arith, find-le 10 c.args.text.now c.loop-i.i c.find_byte-e.result c.loop-i.invariant.i≤ c.find_byte-e.ensures)
+pub loop-line-init : goal.loop-line-init
+loop-line-init c = let e = c.into_iter-line-iterator.ensures.into_iter_gives in let g = c.each-line-items.ensures in (at-front e g.text g.front, rw (e, g.front) (ahead-start c.args.text.now))
 
 pub returns-then-starts_loop : goal.returns-then-starts_loop
-returns-then-starts_loop c = let f = c.find_byte-e in ahead-here c.loop-i.invariant c.loop-i-test.true f.result f.ensures (sym c.starts_loop.ensures ∙ c.if-starts_loop.true)
+returns-then-starts_loop c = let k = goes c.loop-line.invariant.0 c.in-Some.ensures.steps in ahead-here c.loop-line.invariant.1 k.here.starts c.in-Some.line.to k.here.to (sym (rw k.here.bytes at c.starts_loop.ensures) ∙ c.if-starts_loop.true)
 
 pub overflow_add-k : goal.overflow_add-k
-overflow_add-k c = omega (arith, c.loop-i.invariant.k≤, c.loop-i-test.true)
+overflow_add-k c = let k = goes c.loop-line.invariant.0 c.in-Some.ensures.steps in omega (arith, c.loop-line.invariant.1.k≤, k.here.starts)
 
-pub loop-i-smaller : goal.loop-i-smaller
-loop-i-smaller c = omega (arith, c.after-i.ensures, c.find_byte-e.ensures, c.loop-i-test.true)
-
-pub loop-i-preserved : goal.loop-i-preserved
-loop-i-preserved c =
-    let f = c.find_byte-e in
-    ahead-on c.loop-i.invariant c.loop-i-test.true f.result f.ensures (sym c.starts_loop.ensures ∙ c.if-starts_loop.false) c.after-i.result c.after-i.ensures
+pub loop-line-preserved : goal.loop-line-preserved
+loop-line-preserved c = let k = goes c.loop-line.invariant.0 c.in-Some.ensures.steps in (k.on, ahead-on c.loop-line.invariant.1 k.here.starts c.in-Some.line.to k.here.to (sym (rw k.here.bytes at c.starts_loop.ensures) ∙ c.if-starts_loop.false) _ k.here.next)
 
 pub returns : goal.returns
-returns c = ahead-end c.loop-i.invariant c.loop-i-test.false
+returns c = ahead-end c.loop-line.invariant.1 (stops c.loop-line.invariant.0 c.in-None.ensures.steps)

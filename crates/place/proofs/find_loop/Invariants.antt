@@ -1,10 +1,6 @@
-use Prim.Native.Nat.{◌-◌}
-use lib.ListN.{length}
 use Rattle.place.proofs.Quiet.{AheadInv}
+use Rattle.lines.proofs.EachLaws.{Over}
 use Rattle.place.proofs.find_loop.Given as goal
 
-abbrev pub invariant-loop-i : goal.invariant-loop-i
-invariant-loop-i l = AheadInv l.text l.i l.k
-
-abbrev pub decreases-loop-i : goal.decreases-loop-i
-decreases-loop-i l = length l.text - l.i
+abbrev pub invariant-loop-line : goal.invariant-loop-line
+invariant-loop-line l = let it = l.line-iterator in (Over l.text it) × (AheadInv l.text it.at l.k)

@@ -1,46 +1,44 @@
 use native.Mathlib.Omega.{arith}
-use mathlib.Core.Path.{sym, ◌∙◌}
-use Rattle.lines.proofs.LfLaws.{find-le}
+use mathlib.Core.Path.{sym, ◌∙◌, ap}
+use Rattle.lines.proofs.EachLaws.{at-place, goes, stops}
+use Rattle.place.specs.Region.{is_header}
 use Rattle.place.proofs.Regions.{past, end-stop, end_on, end-end, end-past}
 use Rattle.place.proofs.region_end.Goals as goal
 
 pub returns-then-i-text : goal.returns-then-i-text
 returns-then-i-text c = end-past c.args.text.now c.args.i c.if-i-text.true
 
-pub loop-j-init : goal.loop-j-init
-loop-j-init c =
-    let s = c.before.before.before.before in
+pub loop-line-init : goal.loop-line-init
+loop-line-init c =
+    let e = c.into_iter-line-iterator.ensures.into_iter_gives in
+    let g = c.from-line-items.ensures in
     let q = c.find_byte-e.ensures in
     let h = c.if-i-text.false in
-    (omega (arith, c.after-j.ensures, q), (omega (arith, c.after-j.ensures), past s.args.text.now s.args.i c.find_byte-e.result c.after-j.result q (omega arith) c.after-j.ensures))
-
-pub slice_bounds-is_header-end : goal.slice_bounds-is_header-end
-slice_bounds-is_header-end c = omega (arith, find-le 10 c.args.text.now c.loop-j.j c.find_byte-f.result c.loop-j.invariant.1.0 c.find_byte-f.ensures)
+    (at-place e g.text g.place (omega (arith, c.after.ensures)), rw (e, g.place) (past c.args.text.now c.args.i c.find_byte-e.result c.after.result q (omega (arith, h)) c.after.ensures))
 
 pub returns-then-is_header : goal.returns-then-is_header
 returns-then-is_header c =
-    let l = c.loop-j in
-    omega (arith, end-stop c.args.text.now l.j c.find_byte-f.result c.loop-j-test.true c.find_byte-f.ensures (sym c.is_header.ensures ∙ c.if-is_header.true), l.invariant.1.1)
+    let l = c.loop-line in
+    let k = (goes l.invariant.0 c.in-Some.ensures.steps).here in
+    omega (arith, end-stop c.args.text.now l.line-iterator.at c.in-Some.line.to k.starts k.to (sym (c.is_header.ensures ∙ ap is_header k.bytes) ∙ c.if-is_header.true), l.invariant.1, k.from)
 
-pub loop-j-smaller : goal.loop-j-smaller
-loop-j-smaller c = omega (arith, c.after-j-in-loop-j.ensures, c.find_byte-f.ensures)
-
-pub loop-j-preserved : goal.loop-j-preserved
-loop-j-preserved c =
-    let l = c.loop-j in
+pub loop-line-preserved : goal.loop-line-preserved
+loop-line-preserved c =
+    let l = c.loop-line in
     let t = c.args.text.now in
-    let f = c.find_byte-f in (
-      omega (arith, c.after-j-in-loop-j.ensures, f.ensures),
-      (
-        omega (arith, c.after-j-in-loop-j.ensures),
-        omega (
-          arith,
-          past t l.j f.result c.after-j-in-loop-j.result f.ensures l.invariant.1.0 c.after-j-in-loop-j.ensures,
-          end_on t l.j f.result c.loop-j-test.true f.ensures (sym c.is_header.ensures ∙ c.if-is_header.false),
-          l.invariant.1.1,
-        ),
+    let k = goes l.invariant.0 c.in-Some.ensures.steps in
+    let h = k.here in (
+      k.on,
+      omega (
+        arith,
+        past t l.line-iterator.at c.in-Some.line.to _ h.to l.invariant.0.at≤ h.next,
+        end_on t l.line-iterator.at c.in-Some.line.to h.starts h.to (sym (c.is_header.ensures ∙ ap is_header h.bytes) ∙ c.if-is_header.false),
+        l.invariant.1,
       ),
     )
 
 pub returns : goal.returns
-returns c = omega (arith, end-end c.args.text.now c.loop-j.j c.loop-j-test.false, c.loop-j.invariant.1.1)
+returns c =
+    let l = c.loop-line in
+    let e = stops l.invariant.0 c.in-None.ensures.steps in
+    omega (arith, end-end c.args.text.now l.line-iterator.at e, l.invariant.0.at≤, e, l.invariant.1)

@@ -1,10 +1,6 @@
-use Prim.Native.Nat.{◌-◌}
-use lib.ListN.{length}
 use Rattle.place.proofs.Nests.{LoopsInv}
+use Rattle.lines.proofs.EachLaws.{Over}
 use Rattle.place.proofs.walk_loops.Given as goal
 
-abbrev pub invariant-loop-i : goal.invariant-loop-i
-invariant-loop-i l = LoopsInv l.text l.initial.flags l.flags l.i l.k l.d l.o
-
-abbrev pub decreases-loop-i : goal.decreases-loop-i
-decreases-loop-i l = length l.text - l.i
+abbrev pub invariant-loop-line : goal.invariant-loop-line
+invariant-loop-line l = let it = l.line-iterator in (Over l.text it) × (LoopsInv l.text l.initial.flags l.flags it.at l.k l.d l.o)
