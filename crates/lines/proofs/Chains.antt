@@ -1,10 +1,10 @@
 -- Our words for the first b and for how many there are, as std says them of a chain of iterators. Assumes nothing.
 use Rattle.std.proofs.Common.{◌≡◌, ℕ, zero, suc, ◌+◌, ◌<◌, ◌≤◌, Bool, true, false, cond, ◌==◌, List, [], ◌∷◌, length, refl, sym, ◌∙◌, arith}
-use Rattle.std.specs.Prelude.{position, count_by, unwrap_or, None, Some, nat_lt}
-use Rattle.std.specs.List.{position_or_len}
+use Rattle.std.specs.Prelude.{position, count_by, unwrap_or, None, Some, nat_lt, nat_eq}
+use Rattle.std.specs.List.{position_or_len, starts_with}
 use Rattle.std.proofs.lemmas.List.Recursion.{is_position_or_len, is_count_by}
 use Rattle.lines.proofs.LfLaws.{up_to-le}
-use Rattle.lines.specs.Lf.{up_to, count_of}
+use Rattle.lines.specs.Lf.{up_to, count_of, prefixed}
 
 pub up_to_is_first : (b : ℕ) (s : List ℕ) → up_to b s ≡ position_or_len (λ x. x == b) s
 unfolding up_to
@@ -22,3 +22,10 @@ pub position_is_up_to : (b : ℕ) (s : List ℕ) → unwrap_or (position (λ x. 
 position_is_up_to b s =
     let e = up_to_is_first b s in
     first_or_all (position_or_len (λ x. x == b) s) (length s) (omega (arith, e, up_to-le b s)) ∙ sym e
+
+-- `s.starts_with(p)`
+pub starts_is_prefixed : (p s : List ℕ) → starts_with nat_eq s p ≡ prefixed p s
+unfolding prefixed
+starts_is_prefixed [] s = refl
+starts_is_prefixed (x ∷ p) [] = refl
+starts_is_prefixed (x ∷ p) (y ∷ s) = rw (starts_is_prefixed p s)

@@ -1,5 +1,6 @@
 -- Laws of `Wrote`. Assumes nothing.
 use Rattle.std.proofs.Common.{◌≡◌, ℕ, zero, suc, ◌+◌, ◌-◌, ◌<◌, ◌≤◌, List, [], ◌∷◌, ◌++◌, length, get_or, take, drop, set, replicate, sym, refl, ap, ◌∙◌, subst, append_assoc, append-nil, add-zero, add_assoc, add-one, arith, length-append, length-drop, take-append-drop, drop_of_length-le, length-take, length-take-le, get_or-drop, take_all, drop-cons, take-suc, drop-drop, take_at, take-add, drop_at}
+use borrow.Rule.Slice.PartMut.{put_mid, Post-is}
 use lib.ListN.{replicate-append-replicate}
 use lib.Seq.{slice, drop-append-le, drop-append-add, set_split, append_snoc}
 use Rattle.lines.specs.Inner.Out.{put_at, Wrote}
@@ -239,3 +240,15 @@ block-end {d₀} {d} o e w = subst (λ (k : ℕ). Wrote d₀ o (replicate k 0) d
 pub wrote-whole : {d xs d' : List ℕ} {r : ℕ} → Wrote d 0 xs d' r → length xs ≡ length d → d' ≡ xs
 unfolding put_at
 wrote-whole {d} {xs} w e = w.holds ∙ ap (λ (l : List ℕ). xs ++ l) (drop_of_length-le d {i = 0 + length xs} (omega arith)) ∙ append-nil xs
+
+-- what a part of a buffer is made to be has been written there
+pub wrote_part : (d xs ys : List ℕ) (o e : ℕ) → o + length xs ≡ e → e ≤ length d → ys ≡ xs → Wrote d o xs (put_mid o (e - o) d ys) e
+unfolding put_at
+wrote_part d xs ys o e q h y = record {
+  fits = omega arith;
+  place = sym q;
+  holds =
+      ap (put_mid o (e - o) d) y
+      ∙ ap (λ (l : List ℕ). take o d ++ (xs ++ l)) (Post-is o e d (omega arith) ∙ ap (λ (j : ℕ). drop j d) (sym q))
+      ∙ sym (append_assoc (take o d) xs (drop (o + length xs) d));
+}

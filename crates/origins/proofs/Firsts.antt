@@ -1,73 +1,21 @@
--- Comparing by eight bytes, and the first of the lines that came out. Assumes nothing.
+-- Laws of the first of the lines that came out. Assumes nothing.
 use Prim.Native.Nat.{ℕ, zero, suc, ◌+◌, ◌-◌, ◌≤◌, ◌<◌, min}
 use mathlib.Core.Path.{◌≡◌, refl, sym, ap, ◌∙◌}
 use mathlib.Core.Bool.{Bool, true, false, cond, ◌&&◌}
-use mathlib.Core.List.{List, [], ◌∷◌, ◌++◌}
+use mathlib.Core.List.{List, [], ◌∷◌}
 use native.Mathlib.Omega.{arith}
 use borrow.Author.Tests.{eq-eqb, ne_eqb, eqb-true, lt-ltb, le-ltb}
 use lib.Dec.{eqb, ltb}
-use lib.ListN.{length, take, drop, get_or, length-take, length-drop, drop_of_length-le, get_or-eq_default}
-use lib.Seq.{take-take, take-add, drop-drop}
+use lib.ListN.{length, take, drop, get_or, length-take, length-drop, get_or-eq_default}
 use Rattle.lines.specs.Lf.{up_to, part, prefixed, same}
 use Rattle.lines.specs.Inner.Lf.{lacks}
 use Rattle.lines.proofs.Tests.{no, and-false, and-true}
-use Rattle.lines.proofs.Compare.{same-eq, same_refl}
-use Rattle.lines.proofs.LfLaws.{up_to-le, lacks-cons, eight_is, rest_of}
+use Rattle.lines.proofs.Compare.{same-eq}
+use Rattle.lines.proofs.LfLaws.{up_to-le, lacks-cons, rest_of}
 use Rattle.origins.specs.declared.Went.TheVariants.{Equal, Changed, Inside, Away}
 use Rattle.origins.specs.Inner.Codes.{far_move, half}
 use Rattle.origins.proofs.TableLaws.{in-any}
 use Rattle.origins.specs.Inner.Written.{bare_by, said_one, first_is, first_end, said_first}
-
--- ---- by eight bytes
-
-same-list : (a b c d e f g h a' b' c' d' e' f' g' h' : ℕ) →
-    eqb a a' && (eqb b b' && (eqb c c' && (eqb d d' && (eqb e e' && (eqb f f' && (eqb g g' && eqb h h')))))) ≡ same (a ∷ b ∷ c ∷ d ∷ e ∷ f ∷ g ∷ h ∷ []) (a' ∷ b' ∷ c' ∷ d' ∷ e' ∷ f' ∷ g' ∷ h' ∷ [])
-unfolding same
-same-list a b c d e f g h a' b' c' d' e' f' g' h' = rw (and-true (eqb h h'))
-
-pub eight-same : (s t : List ℕ) (j : ℕ) → j + 8 ≤ length s → j + 8 ≤ length t →
-    eqb (get_or s j 0) (get_or t j 0) && (eqb (get_or s (j + 1) 0) (get_or t (j + 1) 0) && (eqb (get_or s (j + 2) 0) (get_or t (j + 2) 0) && (eqb (get_or s (j + 3) 0) (get_or t (j + 3) 0) && (eqb (get_or s (j + 4) 0) (get_or t (j + 4) 0) && (eqb (get_or s (j + 5) 0) (get_or t (j + 5) 0) && (eqb (get_or s (j + 6) 0) (get_or t (j + 6) 0) && eqb (get_or s (j + 7) 0) (get_or t (j + 7) 0)))))))
-    ≡ same (take 8 (drop j s)) (take 8 (drop j t))
-eight-same s t j h k =
-    same-list (get_or s j 0) (get_or s (j + 1) 0) (get_or s (j + 2) 0) (get_or s (j + 3) 0) (get_or s (j + 4) 0) (get_or s (j + 5) 0) (get_or s (j + 6) 0) (get_or s (j + 7) 0) (get_or t j 0) (get_or t (j + 1) 0) (get_or t (j + 2) 0) (get_or t (j + 3) 0) (get_or t (j + 4) 0) (get_or t (j + 5) 0) (get_or t (j + 6) 0) (get_or t (j + 7) 0)
-    ∙ rw (sym (eight_is s j h), sym (eight_is t j k))
-
--- what stands at the front does so in two parts
-front_cut : (n : ℕ) (p s : List ℕ) → n ≤ length p → n ≤ length s → prefixed p s ≡ same (take n p) (take n s) && prefixed (drop n p) (drop n s)
-unfolding prefixed same
-front_cut zero p s h k = refl
-front_cut (suc n) [] s h k = absurd (omega arith)
-front_cut (suc n) (x ∷ p) [] h k = absurd (omega arith)
-front_cut (suc n) (x ∷ p) (y ∷ s) h k = go (eqb x y) (front_cut n p s (omega arith) (omega arith))
-  where
-    go : (b : Bool) → prefixed p s ≡ same (take n p) (take n s) && prefixed (drop n p) (drop n s) → b && prefixed p s ≡ (b && same (take n p) (take n s)) && prefixed (drop n p) (drop n s)
-    go true e = e
-    go false e = refl
-
--- the first j bytes are equal
-front-on : (p s : List ℕ) (j : ℕ) → j ≤ length p → j ≤ length s → take j p ≡ take j s → prefixed p s ≡ prefixed (drop j p) (drop j s)
-front-on p s j h k e =
-    front_cut j p s h k ∙ ap (λ (l : List ℕ). same l (take j s) && prefixed (drop j p) (drop j s)) e ∙ ap (λ (b : Bool). b && prefixed (drop j p) (drop j s)) (same_refl (take j s))
-
-module _ (p s : List ℕ) (j : ℕ) (h : j + 8 ≤ length p) (k : length p ≤ length s) where
-  front-eight : take j p ≡ take j s → prefixed p s ≡ same (take 8 (drop j p)) (take 8 (drop j s)) && prefixed (drop (j + 8) p) (drop (j + 8) s)
-  front-eight e =
-      front-on p s j (omega arith) (omega arith) e
-      ∙ front_cut 8 (drop j p) (drop j s) (omega (arith, length-drop j p)) (omega (arith, length-drop j s))
-      ∙ rw (drop-drop 8 j p, drop-drop 8 j s)
-
-  pub eight-on : take j p ≡ take j s → true ≡ same (take 8 (drop j p)) (take 8 (drop j s)) → take (j + 8) p ≡ take (j + 8) s
-  eight-on e q = take-add j 8 p ∙ ap (λ (l : List ℕ). l ++ take 8 (drop j p)) e ∙ ap (λ (l : List ℕ). take j s ++ l) (same-eq (take 8 (drop j p)) (take 8 (drop j s)) (sym q)) ∙ sym (take-add j 8 s)
-
-  pub eight-off : take j p ≡ take j s → false ≡ same (take 8 (drop j p)) (take 8 (drop j s)) → false ≡ prefixed p s
-  eight-off e q = sym (front-eight e ∙ ap (λ (b : Bool). b && prefixed (drop (j + 8) p) (drop (j + 8) s)) (sym q))
-
--- the last eight
-pub eight-last : (p s : List ℕ) (m j : ℕ) → m ≤ j → m + 8 ≡ length p → length p ≤ length s → take j p ≡ take j s → same (take 8 (drop m p)) (take 8 (drop m s)) ≡ prefixed p s
-unfolding prefixed
-eight-last p s m j h q k e =
-    let f : take m p ≡ take m s = sym (take-take m j p h) ∙ ap (take m) e ∙ take-take m j s h in
-    sym (front-eight p s m (omega arith) k f ∙ ap (λ (l : List ℕ). same (take 8 (drop m p)) (take 8 (drop m s)) && prefixed l (drop (m + 8) s)) (drop_of_length-le p {i = m + 8} (omega arith)) ∙ and-true (same (take 8 (drop m p)) (take 8 (drop m s))))
 
 -- ---- the first line
 

@@ -2,17 +2,17 @@
 use Prim.Native.Nat.{ℕ, suc, ◌+◌, ◌-◌, ◌≤◌}
 use mathlib.Core.Path.{◌≡◌, refl, sym, ap, subst, ◌∙◌}
 use mathlib.Core.Bool.{Bool, true, false}
-use mathlib.Core.List.{List, [], ◌∷◌, ◌++◌, append_assoc}
+use mathlib.Core.List.{List, [], ◌∷◌}
 use native.Mathlib.Omega.{arith}
 use borrow.Author.Tests.{eq-eqb, ne_eqb}
-use borrow.Rule.Slice.PartMut.{put_mid, Post-is}
+use borrow.Rule.Slice.PartMut.{put_mid}
 use lib.ListN.{length, take, drop, length-append, length-take, length-drop, length-replicate, replicate}
 use Rattle.lines.specs.Acts.{Act, keep, become, into, gone, act}
 use Rattle.lines.specs.Lf.{unlines, all}
-use Rattle.lines.specs.Inner.Out.{Wrote, put_at}
+use Rattle.lines.specs.Inner.Out.{Wrote}
 use Rattle.lines.proofs.Tests.{no}
 use Rattle.lines.proofs.ActLaws.{keeps}
-use Rattle.lines.proofs.OutLaws.{wrote_as}
+use Rattle.lines.proofs.OutLaws.{wrote_as, wrote_part}
 use Rattle.origins.specs.Inner.Codes.{move_of, moves_of, note_of}
 
 -- a line stays, becomes another or is gone
@@ -56,15 +56,7 @@ stay-moves acts n e h w = moves-end acts n e (wrote_as (ap (λ (j : ℕ). replic
 
 -- what was noted of lines that all stay in the part of a table that is theirs
 pub stay-part : (d ys : List ℕ) (k n : ℕ) → k + n ≤ length d → ys ≡ replicate (length (take (k + n - k) (drop k d))) 0 → Wrote d k (replicate n 0) (put_mid k (k + n - k) d ys) (k + n)
-unfolding put_at
 stay-part d ys k n h e =
     let m : length (take (k + n - k) (drop k d)) ≡ n = omega (arith, length-take (k + n - k) (drop k d), length-drop k d) in
-    let q : k + n ≡ k + length (replicate {A = ℕ} n 0) = omega (arith, length-replicate {A = ℕ} n 0) in
-    record {
-      fits = omega arith;
-      place = q;
-      holds =
-          ap (put_mid k (k + n - k) d) (e ∙ ap (λ (j : ℕ). replicate j 0) m)
-          ∙ ap (λ (l : List ℕ). take k d ++ (replicate n 0 ++ l)) (Post-is k (k + n) d (omega arith) ∙ ap (λ (j : ℕ). drop j d) q)
-          ∙ sym (append_assoc (take k d) (replicate n 0) (drop (k + length (replicate {A = ℕ} n 0)) d));
-    }
+    let q : k + length (replicate {A = ℕ} n 0) ≡ k + n = omega (arith, length-replicate {A = ℕ} n 0) in
+    wrote_part d (replicate n 0) ys k (k + n) q h (e ∙ ap (λ (j : ℕ). replicate j 0) m)

@@ -1,44 +1,33 @@
 -- Laws of writing a record. Assumes nothing.
-use Prim.Native.Nat.{ℕ, zero, suc, ◌+◌, ◌-◌, ◌/◌, ◌%◌, ◌≤◌, ◌<◌}
-use mathlib.Core.Path.{◌≡◌, refl, sym, ap}
-use mathlib.Core.List.{List, [], ◌∷◌, ◌++◌}
+use Prim.Native.Nat.{ℕ, ◌+◌, ◌-◌, ◌/◌, ◌%◌, ◌≤◌}
+use mathlib.Core.Path.{◌≡◌, refl, sym, ap, ◌∙◌}
+use mathlib.Core.List.{List, [], ◌∷◌}
 use native.Mathlib.Omega.{arith}
-use lib.ListN.{length, set}
+use borrow.Rule.Slice.PartMut.{put_mid}
+use Rattle.std.proofs.Math.Nat.{div-div-eq-div-mul}
+use lib.ListN.{length, take}
 use Rattle.lines.specs.Lf.{low_bytes}
 use Rattle.lines.specs.Inner.Out.{Wrote}
-use Rattle.lines.proofs.OutLaws.{Writing, writing_start, writing-as, writing-room, writing-put, writing-end, wrote-byte, wrote_then}
+use Rattle.lines.proofs.OutLaws.{wrote_part, wrote_then}
 use Rattle.origins.specs.declared.Went.{Went}
 use Rattle.origins.specs.declared.Form.{Form}
+use Rattle.origins.specs.declared.Form.TheVariants.{Ol, Om}
 use Rattle.origins.specs.Form.{Shape, form_shape, gone_of, size_of, fate_byte, out_line, record_bytes}
 use Rattle.origins.proofs.RoundTrip.{low-length}
 
 -- ---- a number
 
-low_step : (k x : ℕ) → 0 < k → low_bytes k x ≡ (x % 256 ∷ []) ++ low_bytes (k - 1) (x / 256)
+-- the first of the eight bytes of a number are it in the bytes of a form
+pub low_take : (f : Form) (n : ℕ) (bs : List ℕ) → take (form_shape f).width (n % 256 ∷ n / 256 % 256 ∷ n / 65536 % 256 ∷ n / 16777216 % 256 ∷ bs) ≡ low_bytes (form_shape f).width n
 unfolding low_bytes
-low_step zero x h = absurd (omega arith)
-low_step (suc k) x h = let q : suc k - 1 ≡ k = omega arith in ap (λ (j : ℕ). x % 256 ∷ low_bytes j (x / 256)) (sym q)
+low_take Ol n bs = refl
+low_take Om n bs = rw (div-div-eq-div-mul n 256 256, div-div-eq-div-mul n 65536 256)
 
-low-none : (k x : ℕ) → k ≤ 0 → low_bytes k x ≡ []
-unfolding low_bytes
-low-none zero x h = refl
-low-none (suc k) x h = absurd (omega arith)
-
-pub record NumberInv (w n o : ℕ) (d₀ d : List ℕ) (p x k : ℕ) : Type 0 where
-  pub writing : Writing o (low_bytes w n) (low_bytes k x) d₀ d p
-
-pub number-start : (w n o : ℕ) (d : List ℕ) → o + w ≤ length d → NumberInv w n o d d o n w
-number-start w n o d h = record { writing = writing_start o (low_bytes w n) d (omega (arith, low-length w n)) }
-
-module _ {w n o p x k : ℕ} {d₀ d : List ℕ} (h : NumberInv w n o d₀ d p x k) where
-  pub number-room : 0 < k → p < length d
-  number-room q = omega (arith, writing-room h.writing, low-length k x)
-
-  pub number-on : 0 < k → NumberInv w n o d₀ (set d p (x % 256)) (p + 1) (x / 256) (k - 1)
-  number-on q = record { writing = writing-put (writing-as (low_step k x q) h.writing) (wrote-byte d p (x % 256) (number-room q)) }
-
-  pub number-end : k ≤ 0 → Wrote d₀ o (low_bytes w n) d p
-  number-end q = writing-end (writing-as (low-none k x q) h.writing)
+pub number-put : (f : Form) (n o e : ℕ) (d bs ys : List ℕ) → e ≡ o + (form_shape f).width → e ≤ length d → ys ≡ take (form_shape f).width (n % 256 ∷ n / 256 % 256 ∷ n / 65536 % 256 ∷ n / 16777216 % 256 ∷ bs) →
+    Wrote d o (low_bytes (form_shape f).width n) (put_mid o (e - o) d ys) e
+number-put f n o e d bs ys q h y =
+    let w : ℕ = (form_shape f).width in
+    wrote_part d (low_bytes w n) ys o e (omega (arith, low-length w n)) h (y ∙ low_take f n bs)
 
 -- ---- a record: its five parts
 

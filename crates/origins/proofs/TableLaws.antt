@@ -10,7 +10,7 @@ use lib.Dec.{eqb}
 use Rattle.std.proofs.Common.{◌==◌}
 use Rattle.std.specs.Prelude.{count_by}
 use Rattle.std.proofs.lemmas.List.Recursion.{is_count_by}
-use lib.ListN.{length, take, drop, get_or, set, length-append, length-take, length-drop, drop_of_length-le}
+use lib.ListN.{length, take, drop, get_or, set, length-append, length-take, length-drop}
 use lib.Seq.{drop-cons, take-length, drop-length, drop-append-add, get_or-append-add}
 use Rattle.lines.specs.Inner.Out.{Wrote}
 use Rattle.lines.proofs.OutLaws.{wrote-byte, wrote_as}

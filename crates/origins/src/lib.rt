@@ -150,10 +150,8 @@ pub fn land(moves: &mut [usize]) -> usize
 {
     let n = count_standing(moves);
     let mut s = n;
-    let mut k = moves.len();
-    while k > 0 {
-        s = land_line(moves, k - 1, s);
-        k -= 1;
+    for k in (0..moves.len()).rev() {
+        s = land_line(moves, k, s);
     }
     n
 }
@@ -222,21 +220,14 @@ pub fn out_line(f: Form, w: Went) -> usize
     }
 }
 
-// Writes a number in `w` bytes, the low byte first, and returns the place after it.
-fn put_number(out: &mut [u8], o: usize, w: usize, n: usize) -> usize
-    requires { o + w ≤ length out.old }
-    ensures { Wrote out.old o (low_bytes w n) out.new result }
+// Writes a number in the bytes of a form, the low byte first, and returns the place after it.
+fn put_number(out: &mut [u8], o: usize, f: Form, n: usize) -> usize
+    requires { o + (form_shape f).width ≤ length out.old }
+    ensures { Wrote out.old o (low_bytes (form_shape f).width n) out.new result }
 {
-    let mut p = o;
-    let mut x = n;
-    let mut k = w;
-    while k > 0 {
-        out[p] = (x % 256) as u8;
-        p += 1;
-        x = x / 256;
-        k -= 1;
-    }
-    p
+    let end = o + width_of(f);
+    out[o..end].copy_from_slice(&n.to_le_bytes()[..width_of(f)]);
+    end
 }
 
 // Writes the record of line `i` in a form, and returns the place after it.
@@ -246,9 +237,9 @@ fn put_in(out: &mut [u8], o: usize, f: Form, i: usize, w: Went) -> usize
 {
     let p = lines::put_byte(out, o, MARK);
     let q = lines::put_byte(out, p, letter_of(f));
-    let r = put_number(out, q, width_of(f), i);
+    let r = put_number(out, q, f, i);
     let s = lines::put_byte(out, r, fate_byte(w));
-    put_number(out, s, width_of(f), out_line(f, w))
+    put_number(out, s, f, out_line(f, w))
 }
 
 // A record in the form `OL`.
@@ -295,52 +286,15 @@ fn bare_end(text: &[u8], i: usize, e: usize) -> usize
     e - 1
 }
 
-// Whether the eight bytes of both at a place are equal; the compiler compares them at once.
-fn same_eight(s: &[u8], t: &[u8], j: usize) -> bool
-    requires { (j + 8 ≤ length s.now) × (j + 8 ≤ length t.now) }
-    ensures { result ≡ same (take 8 (drop j s.now)) (take 8 (drop j t.now)) }
-{
-    (s[j] == t[j])
-        & ((s[j + 1] == t[j + 1])
-            & ((s[j + 2] == t[j + 2])
-                & ((s[j + 3] == t[j + 3])
-                    & ((s[j + 4] == t[j + 4])
-                        & ((s[j + 5] == t[j + 5])
-                            & ((s[j + 6] == t[j + 6]) & (s[j + 7] == t[j + 7])))))))
-}
-
-// Whether `p` stands at the front of `s`, which is no shorter: by eight bytes, the last eight of which may be some of the same.
-fn starts_with(s: &[u8], p: &[u8]) -> bool
-    requires { length p.now ≤ length s.now }
-    ensures { result ≡ prefixed p.now s.now }
-{
-    if p.len() < 8 {
-        return lines::starts_with(s, p);
-    }
-    let m = p.len() - 8;
-    let mut j = 0;
-    while j < m {
-        if same_eight(p, s, j) {
-            j += 8;
-        } else {
-            return false;
-        }
-    }
-    same_eight(p, s, m)
-}
-
 // Whether `line` stands at the front of `s`, and an LF or nothing behind it.
 fn first_is(line: &[u8], s: &[u8]) -> bool
     ensures { result ≡ first_is line.now s.now }
 {
     let n = line.len();
-    if s.len() <= n {
-        return lines::starts_with(s, line);
-    }
-    if s[n] != 10 {
+    if n < s.len() && s[n] != 10 {
         return false;
     }
-    starts_with(s, line)
+    s.starts_with(line)
 }
 
 // What is said of a line, and where the next line that came out begins.

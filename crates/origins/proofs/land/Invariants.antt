@@ -3,6 +3,3 @@ use Rattle.origins.proofs.land.Given as goal
 
 abbrev pub invariant-loop-k : goal.invariant-loop-k
 invariant-loop-k l = LandInv l.initial.moves l.moves l.k l.s
-
-abbrev pub decreases-loop-k : goal.decreases-loop-k
-decreases-loop-k l = l.k

@@ -1,5 +1,4 @@
-use Rattle.std.proofs.Common.{rules, ◌≡◌, ◌+◌, ◌<◌, arith, drop, length}
-use Rattle.lines.specs.Lf.{up_to}
+use Rattle.std.proofs.Common.{rules, ◌<◌, arith, length}
 use Rattle.origins.proofs.Thins.{next-at, next-in, k-in}
 use Rattle.origins.proofs.note_next.Goals as goal
 
