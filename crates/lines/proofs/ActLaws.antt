@@ -1,5 +1,5 @@
 -- Laws of acts and of the lines that they make. Assumes nothing.
-use Rattle.std.proofs.Common.{◌≡◌, ℕ, ◌+◌, ◌≤◌, Bool, true, false, List, [], ◌∷◌, ◌++◌, length, sym, refl, ap, ◌∙◌, append_assoc, arith, length-append}
+use Rattle.std.proofs.Common.{◌≡◌, ℕ, ◌≤◌, Bool, true, false, List, [], ◌∷◌, ◌++◌, length, sym, refl, ap, ◌∙◌, append_assoc, arith, length-append}
 use Rattle.lines.proofs.Tests.{no, and_left, and_right, and_both}
 use Rattle.lines.proofs.LfLaws.{no_lf-append}
 use Rattle.lines.specs.Acts.{Act, keep, become, into, gone, act, apply}

@@ -1,5 +1,5 @@
 -- No line of a text has what the whole text lacks. Assumes nothing.
-use Rattle.std.proofs.Common.{◌≡◌, ℕ, suc, Bool, true, false, not, ◌&&◌, eqb, List, [], ◌∷◌, take, drop, sym, refl, ap, ◌∙◌, arith}
+use Rattle.std.proofs.Common.{◌≡◌, ℕ, suc, Bool, true, false, not, eqb, List, [], ◌∷◌, take, drop, refl, ap, ◌∙◌, arith}
 use Rattle.lines.specs.Lf.{up_to, cut_on, lines_of, all}
 use Rattle.lines.proofs.Tests.{and_right}
 use Rattle.lines.proofs.LfLaws.{lines-first}

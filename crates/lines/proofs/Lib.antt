@@ -7,6 +7,7 @@ pub mod Compare
 pub mod OutLaws
 pub mod StepLaws
 pub mod Lacking
+pub mod Fills
 mod Whole
 pub mod Counts
 pub mod JoinLaws

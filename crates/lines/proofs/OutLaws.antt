@@ -1,7 +1,7 @@
 -- Laws of `Wrote`. Assumes nothing.
 use Rattle.std.proofs.Common.{◌≡◌, ℕ, zero, suc, ◌+◌, ◌-◌, ◌<◌, ◌≤◌, List, [], ◌∷◌, ◌++◌, length, get_or, take, drop, set, replicate, sym, refl, ap, ◌∙◌, subst, append_assoc, append-nil, add-zero, add_assoc, add-one, arith, length-append, length-drop, take-append-drop, drop_of_length-le, length-take, length-take-le, get_or-drop, take_all, drop-cons, take-suc, drop-drop, take_at, take-add, drop_at}
 use borrow.Rule.Slice.PartMut.{put_mid, Post-is}
-use lib.ListN.{replicate-append-replicate}
+use lib.ListN.{length-replicate}
 use lib.Seq.{slice, drop-append-le, drop-append-add, set_split, append_snoc}
 use Rattle.lines.specs.Inner.Out.{put_at, Wrote}
 
@@ -207,34 +207,24 @@ module _ (t d : List ℕ) (o j : ℕ) (h : (o + 8 ≤ length d) × (j + 8 ≤ le
       let first : Wrote d o (take 1 (drop j t)) (set d o (get_or t j 0)) (o + 1) = wrote_as (sym (ap (take 1) (drop-cons t j 0 (omega (arith, h.1))))) (wrote-byte d o (get_or t j 0) (omega (arith, h.0))) in
       put_next 7 (omega arith) (put_next 6 (omega arith) (put_next 5 (omega arith) (put_next 4 (omega arith) (put_next 3 (omega arith) (put_next 2 (omega arith) (put_next 1 (omega arith) first))))))
 
--- ---- the loop of `wipe`
+-- zeros over the first n bytes
+pub wiped : (d z : List ℕ) (n : ℕ) → n ≤ length d → z ≡ replicate (length (take n d)) 0 → Wrote d 0 (replicate n 0) (z ++ drop n d) n
+unfolding put_at
+wiped d z n h e =
+    let l : length {A = ℕ} (replicate n 0) ≡ n = length-replicate {A = ℕ} n 0 in
+    let m : 0 + length {A = ℕ} (replicate n 0) ≡ n = omega arith in
+    record {
+      fits = omega arith;
+      place = omega arith;
+      holds = ap (λ (r : List ℕ). r ++ drop n d) (e ∙ ap (λ (k : ℕ). replicate k 0) (length-take-le n d h)) ∙ ap (λ (k : ℕ). replicate n 0 ++ drop k d) (sym m);
+    }
 
 pub zeros-more : (i : ℕ) → replicate i 0 ++ (0 ∷ []) ≡ replicate {A = ℕ} (suc i) 0
 zeros-more zero = refl
 zeros-more (suc i) = ap (λ (l : List ℕ). 0 ∷ l) (zeros-more i)
 
-pub wipe-start : (d : List ℕ) → Wrote d 0 (replicate 0 0) d 0
-wipe-start d = wrote-nil d 0 (omega arith)
-
-pub wipe_on : {d₀ d d' : List ℕ} (i e : ℕ) → i ≤ e → Wrote d₀ 0 (replicate i 0) d i → Wrote d i (replicate (e - i) 0) d' (i + (e - i)) → Wrote d₀ 0 (replicate e 0) d' e
-wipe_on {d₀} {d} {d'} i e h w v =
-    let q : i + (e - i) ≡ e = omega arith in
-    subst (λ (n : ℕ). Wrote d₀ 0 (replicate n 0) d' n) q (wrote_as (replicate-append-replicate {A = ℕ} i (e - i) 0) (wrote_then w v))
-
 pub wipe-end : {d₀ d : List ℕ} {i n : ℕ} → i ≡ n → Wrote d₀ 0 (replicate i 0) d i → Wrote d₀ 0 (replicate n 0) d n
 wipe-end {d₀} {d} e w = subst (λ (k : ℕ). Wrote d₀ 0 (replicate k 0) d k) e w
-
--- a block of zeros from the place o on
-pub block_start : (d : List ℕ) (o : ℕ) → o ≤ length d → Wrote d o (replicate 0 0) d (o + 0)
-block_start d o h = let e : o ≡ o + 0 = omega arith in subst (λ (n : ℕ). Wrote d o [] d n) e (wrote-nil d o h)
-
-pub block_on : {d₀ d : List ℕ} (o j : ℕ) → o + j < length d → Wrote d₀ o (replicate j 0) d (o + j) → Wrote d₀ o (replicate (j + 1) 0) (set d (o + j) 0) (o + (j + 1))
-block_on {d₀} {d} o j h w =
-    let e : o + j + 1 ≡ o + (j + 1) = omega arith in
-    subst (λ (n : ℕ). Wrote d₀ o (replicate (j + 1) 0) (set d (o + j) 0) n) e (wrote_as (zeros-more j ∙ ap (λ (n : ℕ). replicate n 0) (sym (add-one j))) (wrote-more 0 w h))
-
-pub block-end : {d₀ d : List ℕ} (o : ℕ) {j n : ℕ} → j ≡ n → Wrote d₀ o (replicate j 0) d (o + j) → Wrote d₀ o (replicate n 0) d (o + n)
-block-end {d₀} {d} o e w = subst (λ (k : ℕ). Wrote d₀ o (replicate k 0) d (o + k)) e w
 
 -- what is written over all of a buffer is all that it holds
 pub wrote-whole : {d xs d' : List ℕ} {r : ℕ} → Wrote d 0 xs d' r → length xs ≡ length d → d' ≡ xs

@@ -366,7 +366,7 @@ const WORDS: usize = BLOCK / 8;
 // Where the block that begins at a place ends, of the first n places: it has so many at most.
 fn block_end(i: usize, n: usize, most: usize) -> usize
     requires { i ≤ n }
-    ensures { ((i ≤ result) × (result ≤ n)) × (i < n → 0 < most → i < result) }
+    ensures { result ≡ min (i + most) n }
 {
     if n - i <= most {
         return n;
@@ -374,15 +374,23 @@ fn block_end(i: usize, n: usize, most: usize) -> usize
     i + most
 }
 
-// Writes zeros over `n` bytes from the place `o` on.
-fn wipe_block(s: &mut [u8], o: usize, n: usize)
-    requires { o + n ≤ length s.old }
-    ensures { Wrote s.old o (replicate n 0) s.new (o + n) }
+// Writes one value over all of a block.
+fn fill<T: Copy>(block: &mut [T], value: T)
+    ensures { block.new ≡ replicate (length block.old) value }
 {
-    let mut j = 0;
-    while j < n {
-        s[o + j] = 0;
-        j += 1;
+    for i in 0..block.len() {
+        block[i] = value;
+    }
+}
+
+// Writes zeros over all of a buffer, in blocks of `most` entries.
+fn wipe_blocks<T: Copy>(s: &mut [T], zero: T, most: usize)
+    requires { 0 < most }
+    ensures { s.new ≡ replicate (length s.old) zero }
+{
+    for i in (0..s.len()).step_by(most) {
+        let e = block_end(i, s.len(), most);
+        fill(&mut s[i..e], zero);
     }
 }
 
@@ -391,60 +399,21 @@ pub fn wipe(s: &mut [u8], n: usize)
     requires { n ≤ length s.old }
     ensures { Wrote s.old 0 (replicate n 0) s.new n }
 {
-    let mut i = 0;
-    while i < n {
-        let e = block_end(i, n, BLOCK);
-        wipe_block(s, i, e - i);
-        i = e;
-    }
-}
-
-// Writes zeros over `n` numbers from the place `o` on.
-fn wipe_numbers_block(s: &mut [u32], o: usize, n: usize)
-    requires { o + n ≤ length s.old }
-    ensures { Wrote s.old o (replicate n 0) s.new (o + n) }
-{
-    let mut j = 0;
-    while j < n {
-        s[o + j] = 0;
-        j += 1;
-    }
+    wipe_blocks(&mut s[..n], 0, BLOCK);
 }
 
 // Writes zeros over all of a buffer of numbers of 32 bits.
 pub fn wipe_numbers(numbers: &mut [u32])
     ensures { numbers.new ≡ replicate (length numbers.old) 0 }
 {
-    let mut i = 0;
-    while i < numbers.len() {
-        let e = block_end(i, numbers.len(), NUMBERS);
-        wipe_numbers_block(numbers, i, e - i);
-        i = e;
-    }
-}
-
-// Writes zeros over `n` numbers from the place `o` on.
-fn wipe_words_block(s: &mut [usize], o: usize, n: usize)
-    requires { o + n ≤ length s.old }
-    ensures { Wrote s.old o (replicate n 0) s.new (o + n) }
-{
-    let mut j = 0;
-    while j < n {
-        s[o + j] = 0;
-        j += 1;
-    }
+    wipe_blocks(numbers, 0, NUMBERS);
 }
 
 // Writes zeros over all of a buffer of numbers.
 pub fn wipe_words(words: &mut [usize])
     ensures { words.new ≡ replicate (length words.old) 0 }
 {
-    let mut i = 0;
-    while i < words.len() {
-        let e = block_end(i, words.len(), WORDS);
-        wipe_words_block(words, i, e - i);
-        i = e;
-    }
+    wipe_blocks(words, 0, WORDS);
 }
 
 // Whether the last byte is an LF.

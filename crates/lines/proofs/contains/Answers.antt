@@ -1,4 +1,4 @@
-use Rattle.std.proofs.Common.{◌+◌, ◌-◌, length, sym, ◌∙◌, arith, ne_eqb}
+use Rattle.std.proofs.Common.{◌+◌, length, sym, ◌∙◌, arith, ne_eqb}
 use Rattle.lines.proofs.Compare.{hold-empty, hold-here, hold-on, hold-up, hold-end}
 use Rattle.lines.proofs.contains.Goals as goal
 

@@ -1,4 +1,4 @@
-use Rattle.std.proofs.Common.{◌≡◌, ◌-◌, drop, ap, ◌∙◌, arith, drop-drop}
+use Rattle.std.proofs.Common.{◌≡◌, drop, ap, ◌∙◌, arith, drop-drop}
 use lib.Count.{count_trailing_zeros, trailing_le, trailing_of_zero}
 use Rattle.lines.specs.Lf.{up_to}
 use Rattle.lines.proofs.LfLaws.{up-skip}
