@@ -8,8 +8,8 @@ loop-x-preserved c =
     let a = c.args in
     let i = c.loop-x.x-index in
     elim c.if-x-b.branch [
-      then-x-b w ↦ let h = count-here a.b a.s.now i c.loop-x-test.true w.if-x-b.true in (omega arith, omega arith)
-    | else-x-b w ↦ let h = count-on a.b a.s.now i c.loop-x-test.true w.if-x-b.false in (omega arith, omega arith)
+      | then-x-b w ↦ let h = count-here a.b a.s.now i c.loop-x-test.true w.if-x-b.true in (omega arith, omega arith)
+      | else-x-b w ↦ let h = count-on a.b a.s.now i c.loop-x-test.true w.if-x-b.false in (omega arith, omega arith)
     ]
 
 pub returns : goal.returns

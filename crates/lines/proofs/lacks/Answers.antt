@@ -10,8 +10,8 @@ loop-x-preserved c =
     let a = c.args in
     let l = c.loop-x in
     elim c.if-x-b.branch [
-      then-x-b w ↦ rw w.none-is (sym (ap (λ (q : Bool). l.none && q) (lacks-here a.b a.s.now l.x-index c.loop-x-test.true w.if-x-b.true) ∙ and-false l.none) ∙ l.invariant)
-    | else-x-b w ↦ rw w.none-is (sym (ap (λ (q : Bool). l.none && q) (lacks-on a.b a.s.now l.x-index c.loop-x-test.true w.if-x-b.false)) ∙ l.invariant)
+      | then-x-b w ↦ rw w.none-is (sym (ap (λ (q : Bool). l.none && q) (lacks-here a.b a.s.now l.x-index c.loop-x-test.true w.if-x-b.true) ∙ and-false l.none) ∙ l.invariant)
+      | else-x-b w ↦ rw w.none-is (sym (ap (λ (q : Bool). l.none && q) (lacks-on a.b a.s.now l.x-index c.loop-x-test.true w.if-x-b.false)) ∙ l.invariant)
     ]
 
 pub returns : goal.returns

@@ -13,8 +13,8 @@ pub loop-i-preserved : goal.loop-i-preserved
 loop-i-preserved c =
     let l = c.loop-i in
     elim c.if-not-cr_lf.branch [
-      then-not-cr_lf w ↦ rw (w.out-is, w.o-is) (splitting-put c.args.text.now l.i l.invariant c.loop-i-test.true (sym c.cr_lf.ensures ∙ w.if-not-cr_lf.true) w.put_byte-o.ensures)
-    | else-not-cr_lf w ↦ rw (w.out-is, w.o-is) (splitting-cr _ l.i l.invariant c.loop-i-test.true (sym c.cr_lf.ensures ∙ w.if-not-cr_lf.false))
+      | then-not-cr_lf w ↦ rw (w.out-is, w.o-is) (splitting-put c.args.text.now l.i l.invariant c.loop-i-test.true (sym c.cr_lf.ensures ∙ w.if-not-cr_lf.true) w.put_byte-o.ensures)
+      | else-not-cr_lf w ↦ rw (w.out-is, w.o-is) (splitting-cr _ l.i l.invariant c.loop-i-test.true (sym c.cr_lf.ensures ∙ w.if-not-cr_lf.false))
     ]
 
 pub returns : goal.returns
