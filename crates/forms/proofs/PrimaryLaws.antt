@@ -8,10 +8,11 @@ use borrow.Author.Tests.{lt-ltb, ltb-true, ltb-false}
 use lib.Dec.{eqb, ltb, leb-suc-suc}
 use lib.ListN.{length, drop, get_or, length-drop, length-append, drop_of_length-le}
 use lib.Seq.{drop-drop}
-use Rattle.lines.specs.Lf.{among, part, up_to, parts_of}
+use Rattle.lines.specs.Lf.{among, up_to}
 use Rattle.lines.specs.Inner.Lf.{lacks}
 use Rattle.lines.proofs.Tests.{no, eqb-sym}
-use Rattle.lines.proofs.LfLaws.{parts_at, parts-at-end, lacks-append}
+use Rattle.lines.proofs.LfLaws.{lacks-append}
+use Rattle.std.specs.List.{list_all}
 use Rattle.text.specs.Class.{is_quote}
 use Rattle.names.specs.Names.{is_ident}
 use Rattle.lexical.specs.declared.Token.{Token}
@@ -36,27 +37,12 @@ among-is (b ∷ bs) x = rw (eqb-sym b x) (go (eqb x b) (among-is bs x))
 pub among-found : (bs : List ℕ) (x k : ℕ) → k ≡ 0 + up_to x bs → ltb k (length bs) ≡ among bs x
 among-found bs x k e = let q : k ≡ up_to x bs = omega arith in rw q (among-is bs x)
 
--- ---- the loop of `all_idents`
+-- ---- every piece
 
-idents-cons : (p : List ℕ) (ps : List (List ℕ)) (b : Bool) → is_ident p ≡ b → all_idents (p ∷ ps) ≡ b && all_idents ps
+pub idents-all : (ps : List (List ℕ)) → list_all is_ident ps ≡ all_idents ps
 unfolding all_idents
-idents-cons p ps b e = rw e
-
--- the piece from i up to e is no name, is the last one, or is not
-module _ (s : List ℕ) (i e : ℕ) (h : i ≤ length s) (q : e ≡ i + up_to 46 (drop i s)) where
-  pub idents-stop : is_ident (part i e s) ≡ false → all_idents (parts_of 46 (drop i s)) ≡ false
-  idents-stop k = go (ltb e (length s)) refl
-    where
-      go : (t : Bool) → ltb e (length s) ≡ t → all_idents (parts_of 46 (drop i s)) ≡ false
-      go true z = ap all_idents (parts_at 46 s i e h q (ltb-true e (length s) z)) ∙ idents-cons _ _ false k
-      go false z = ap all_idents (parts-at-end 46 s i e h q (ltb-false e (length s) z)) ∙ idents-cons _ _ false k
-
-  pub idents-last : length s ≤ e → is_ident (part i e s) ≡ true → all_idents (parts_of 46 (drop i s)) ≡ true
-  unfolding all_idents
-  idents-last z k = ap all_idents (parts-at-end 46 s i e h q z) ∙ idents-cons _ [] true k
-
-  pub idents-on : e < length s → is_ident (part i e s) ≡ true → all_idents (parts_of 46 (drop i s)) ≡ all_idents (parts_of 46 (drop (e + 1) s))
-  idents-on z k = ap all_idents (parts_at 46 s i e h q z) ∙ idents-cons _ _ true k
+idents-all [] = refl
+idents-all (p ∷ ps) = ap (λ (b : Bool). is_ident p && b) (idents-all ps)
 
 -- ---- the loop of `no_operator`
 

@@ -43,17 +43,7 @@ pub fn is_control_header(t: &[u8]) -> bool
 fn all_idents(t: &[u8]) -> bool
     ensures { result ≡ all_idents (parts_of 46 t.now) }
 {
-    let mut i = 0;
-    loop {
-        let e = lines::find_byte(t, i, b'.');
-        if !names::is_simple_ident(&t[i..e]) {
-            return false;
-        }
-        if e >= t.len() {
-            return true;
-        }
-        i = e + 1;
-    }
+    lines::pieces(t, b'.').all(|p| names::is_simple_ident(p))
 }
 
 // Whether a value is names with a `.` between them.
