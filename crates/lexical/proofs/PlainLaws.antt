@@ -8,6 +8,11 @@ use borrow.Author.Tests.{ne_eqb, leb-true, le-leb, lt-leb, ltb-true, ltb-false}
 use lib.Dec.{leb, ltb, eqb}
 use lib.ListN.{length, take, drop, get_or, length-append, length-drop}
 use lib.Seq.{drop-drop, take_all, get_or-drop, append_snoc}
+use Rattle.std.proofs.Common.{reverse, Option, Some}
+use Rattle.std.proofs.lemmas.Grind.{reverse_onto}
+use Rattle.std.proofs.lemmas.List.{reverse-reverse}
+use Rattle.std.specs.List.{find}
+use Rattle.std.specs.Option.{unwrap_or}
 use Rattle.lines.specs.Lf.{part, all, prefixed}
 use Rattle.lines.proofs.Tests.{no, and-true, or-false, and_left, and_right}
 use Rattle.lines.specs.Inner.Out.{Wrote}
@@ -200,21 +205,22 @@ two-more t l a b h p q = grown-append t l (a ∷ b ∷ []) ∙ rw (after-low b q
 
 -- ---- from the end of the bytes
 
-module _ (last : ℕ) (s : List ℕ) (i k : ℕ) where
-  low-back : i < k → k ≤ length s → low_last last (part i k s) ≡ cond (is_white (get_or s (k - 1) 0)) (low_last last (part i (k - 1) s)) (get_or s (k - 1) 0)
-  low-back h l =
-      let e : k ≡ k - 1 + 1 = omega arith in
-      ap (λ (n : ℕ). low_last last (part i n s)) e ∙ ap (low_last last) (part-more s i (k - 1) (omega arith) (omega arith)) ∙ low-more last (part i (k - 1) s) (get_or s (k - 1) 0)
+-- a byte that is no white space
+abbrev is_dark : ℕ → Bool
+is_dark b = not (is_white b)
 
-  pub low-here : i < k → k ≤ length s → is_white (get_or s (k - 1) 0) ≡ false → low_last last (part i k s) ≡ get_or s (k - 1) 0
-  low-here h l e = low-back h l ∙ rw e
+low-found : (last : ℕ) (r : List ℕ) → low_last last (reverse r) ≡ unwrap_or (find is_dark r) last
+unfolding low_last
+low-found last [] = refl
+low-found last (x ∷ r) = ap (low_last last) (reverse_onto r x []) ∙ low-more last (reverse r) x ∙ go (is_white x) (low-found last r)
+  where
+    go : (t : Bool) → low_last last (reverse r) ≡ unwrap_or (find is_dark r) last → cond t (low_last last (reverse r)) x ≡ unwrap_or (cond (not t) (Some x) (find is_dark r)) last
+    go true h = h
+    go false h = refl
 
-  pub low-on : i < k → k ≤ length s → is_white (get_or s (k - 1) 0) ≡ true → low_last last (part i k s) ≡ low_last last (part i (k - 1) s)
-  low-on h l e = low-back h l ∙ rw e
-
-  pub low-none : k ≤ i → low_last last (part i k s) ≡ last
-  unfolding low_last
-  low-none h = let e : k - i ≡ 0 = omega arith in rw e
+-- the last of them is found first from the end
+pub low-back : (last : ℕ) (t : List ℕ) (o : Option ℕ) → o ≡ find is_dark (reverse t) → unwrap_or o last ≡ low_last last t
+low-back last t o e = rw e (sym (low-found last (reverse t)) ∙ ap (low_last last) (reverse-reverse t))
 
 module _ (s : List ℕ) (i j : ℕ) (q : j ≡ ends plain_len s i) where
   pub plain_in : (i ≡ j → ⊥) → i < j × (j ≤ length s)

@@ -8,6 +8,8 @@ use borrow.Author.Tests.{eq-eqb, ne_eqb, eqb-true, eqb-false, leb-true, leb-fals
 use lib.Dec.{eqb, leb}
 use lib.ListN.{length, take, drop, get_or, length-take, length-drop, drop_of_length-le}
 use lib.Seq.{drop-drop, take-add}
+use Rattle.std.specs.List.{list_all}
+use Rattle.std.specs.Char.{is_ascii_digit}
 use Rattle.lines.specs.Lf.{within, part, prefixed, is_empty}
 use Rattle.lines.proofs.LfLaws.{part_none}
 use Rattle.text.specs.declared.Span.{Span}
@@ -294,12 +296,6 @@ module _ (w : List ℕ) (h : length w ≡ 0 → ⊥) where
   pub bare-start : get_or w 0 0 ≡ 114 → digits (drop 1 w) ≡ no_word w
   bare-start e = sym (bare-first w h ∙ rw (eq-eqb (get_or w 0 0) 114 e))
 
-module _ (w : List ℕ) (i : ℕ) where
-  pub digits-on : i < length w → within 48 57 (get_or w i 0) ≡ true → digits (drop i w) ≡ digits (drop (i + 1) w)
-  digits-on h e = rw (cons-at w i h, e)
-
-  pub digits-stop : i < length w → within 48 57 (get_or w i 0) ≡ false → digits (drop i w) ≡ false
-  digits-stop h e = rw (cons-at w i h, e)
-
-  pub digits-end : length w ≤ i → digits (drop i w) ≡ true
-  digits-end h = rw (drop_of_length-le w h)
+pub digits-all : (w : List ℕ) → list_all is_ascii_digit w ≡ digits w
+digits-all [] = refl
+digits-all (x ∷ w) = ap (λ (b : Bool). within 48 57 x && b) (digits-all w)

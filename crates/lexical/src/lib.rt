@@ -1,7 +1,7 @@
 // Cleaning a line: comments go, and a literal leaves `S`; what is read from a cleaned line.
 #![tactic(auto)]
 
-ghost use Rattle.std.specs.Prelude.{◌≡◌, [], false, cond, not, ℕ, ◌+◌, ◌≤◌, ◌<◌, length, take, drop, get_or};
+ghost use Rattle.std.specs.Prelude.{◌≡◌, [], true, false, cond, not, ℕ, ◌+◌, ◌≤◌, ◌<◌, max, length, take, drop, get_or, MatchOption};
 ghost use Rattle.lines.specs.Ascii.{ascii};
 ghost use Rattle.lines.specs.Lf.{all, part, holds};
 ghost use Rattle.lines.specs.Inner.Lf.{lacks};
@@ -33,42 +33,40 @@ pub struct Token {
     pub kind: Kind,
 }
 
-// Where the quote `q` ends that was opened just before `i`: past what closes it, or at the end.
-pub fn quote_end(s: &[u8], i: usize, q: u8) -> usize
-    ensures { result ≡ i + quote_len (drop i s.now) q }
+// Where the quote `q` closes that was opened just before `i`: past its last byte, where it is closed.
+fn quote_close(s: &[u8], i: usize, q: u8) -> Option<usize>
+    ensures { MatchOption result
+        ((quote_shut (drop i s.now) q ≡ false) × (max i (length s.now) ≡ i + quote_len (drop i s.now) q))
+        (λ e. (quote_shut (drop i s.now) q ≡ true) × (e ≡ i + quote_len (drop i s.now) q)) }
 {
     let mut j = i;
-    while j < s.len() {
-        let x = s[j];
-        let next = j + 1;
-        if x == b'\\' {
-            j = lines::after(s, next);
-        } else if x == q {
-            return next;
-        } else {
-            j = next;
-        }
-    }
-    j
-}
-
-// Whether the quote `q` that was opened just before `i` is closed.
-pub fn quote_shut(s: &[u8], i: usize, q: u8) -> bool
-    ensures { result ≡ quote_shut (drop i s.now) q }
-{
-    let mut j = i;
+    // Kept: the place moves past what stands behind a backslash.
     while j < s.len() {
         let b = s[j];
         let next = j + 1;
         if b == b'\\' {
             j = lines::after(s, next);
         } else if b == q {
-            return true;
+            return Some(next);
         } else {
             j = next;
         }
     }
-    false
+    None
+}
+
+// Where the quote `q` ends that was opened just before `i`: past what closes it, or at the end.
+pub fn quote_end(s: &[u8], i: usize, q: u8) -> usize
+    ensures { result ≡ i + quote_len (drop i s.now) q }
+{
+    quote_close(s, i, q).unwrap_or(i.max(s.len()))
+}
+
+// Whether the quote `q` that was opened just before `i` is closed.
+pub fn quote_shut(s: &[u8], i: usize, q: u8) -> bool
+    ensures { result ≡ quote_shut (drop i s.now) q }
+{
+    quote_close(s, i, q).is_some()
 }
 
 // Where the pattern ends that was opened just before `i`. A `/` inside a class does not close it.
@@ -77,6 +75,7 @@ fn pattern_end(s: &[u8], i: usize) -> usize
 {
     let mut j = i;
     let mut inside = false;
+    // Kept: the place moves past what stands behind a backslash.
     while j < s.len() {
         let next = j + 1;
         match s[j] {
@@ -106,19 +105,14 @@ fn pattern_end(s: &[u8], i: usize) -> usize
 fn comment_end(s: &[u8], i: usize) -> usize
     ensures { result ≡ i + comment_len (drop i s.now) }
 {
-    let mut j = i;
-    while j < s.len() {
-        let next = j + 1;
+    for j in i..s.len() {
         if s[j] == b'*' {
-            if lines::byte_at(s, next) == b'/' {
-                return next + 1;
+            if lines::byte_at(s, j + 1) == b'/' {
+                return j + 2;
             }
-            j = next;
-        } else {
-            j = next;
         }
     }
-    j
+    i.max(s.len())
 }
 
 // Whether a `/` after this last character starts a pattern; 256 stands for none.
@@ -330,14 +324,12 @@ fn mild_eight(s: &[u8], j: usize) -> bool
 fn plain_one(s: &[u8], i: usize) -> usize
     ensures { result ≡ i + plain_len (drop i s.now) }
 {
-    let mut j = i;
-    while j < s.len() {
+    for j in i..s.len() {
         if !is_plain(s[j]) {
             return j;
         }
-        j += 1;
     }
-    j
+    i.max(s.len())
 }
 
 // Whether none of the eight bytes at a place is `b`; the compiler compares them at once.
@@ -370,6 +362,7 @@ pub fn plain_end(s: &[u8], i: usize) -> usize
     }
     let n = s.len() - 7;
     let mut j = i;
+    // Kept: the place moves by the eight bytes that are tested at once.
     while j < n {
         if tame_eight(s, j) {
             j += 8;
@@ -390,6 +383,7 @@ pub fn plain_to(s: &[u8]) -> usize
     }
     let m = n - 9;
     let mut j = 0;
+    // Kept: the place moves by the eight bytes that are tested at once.
     while j < m {
         if !tame_eight(s, j) {
             return plain_one(s, j);
@@ -426,15 +420,10 @@ fn low_after(last: u16, b: u8) -> u16
 fn low_end(t: &[u8], last: u16) -> u16
     ensures { result ≡ low_last last t.now }
 {
-    let mut k = t.len();
-    while 0 < k {
-        let b = t[k - 1];
-        if is_dark(b) {
-            return b as u16;
-        }
-        k -= 1;
+    match t.iter().rev().find(|b| is_dark(**b)) {
+        Some(b) => *b as u16,
+        None => last,
     }
-    last
 }
 
 // The same of the bytes from `i` to `j`.
@@ -656,14 +645,7 @@ fn is_no_word(w: &[u8]) -> bool
     if w[0] != b'r' {
         return false;
     }
-    let mut i = 1;
-    while i < w.len() {
-        if !((48 <= w[i]) & (w[i] <= 57)) {
-            return false;
-        }
-        i += 1;
-    }
-    true
+    w[1..].iter().all(|b| b.is_ascii_digit())
 }
 
 // The first word at or after the place `i` of a cleaned text, where a character begins: from the place 0, and then from the end of

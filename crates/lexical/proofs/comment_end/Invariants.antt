@@ -1,12 +1,7 @@
-use Prim.Native.Nat.{◌-◌}
-use mathlib.Core.Path.{◌≡◌}
-use lib.ListN.{length}
+use Rattle.std.proofs.Common.{◌≡◌}
 use Rattle.lexical.specs.Lex.{comment_len}
 use Rattle.lexical.proofs.EndLaws.{ends}
 use Rattle.lexical.proofs.comment_end.Given as goal
 
 abbrev pub invariant-loop-j : goal.invariant-loop-j
 invariant-loop-j l = ends comment_len l.s l.j ≡ ends comment_len l.s l.i
-
-abbrev pub decreases-loop-j : goal.decreases-loop-j
-decreases-loop-j l = length l.s - l.j

@@ -1,21 +1,16 @@
-use mathlib.Core.Path.{sym, ◌∙◌}
-use Rattle.lexical.proofs.WordLaws.{bare-empty, bare-other, bare-start, digits-on, digits-stop, digits-end}
+use Rattle.std.proofs.Common.{drop, ap, ◌∙◌, rules, tests}
+use Rattle.std.proofs.lemmas.List.{take_rest}
+use Rattle.std.specs.List.{list_all}
+use Rattle.std.proofs.lemmas.Iterator.{YieldsList-from_slice}
+use Rattle.std.proofs.lemmas.Iterator.Search.{all_from_yields_List}
+use Rattle.std.specs.Char.{is_ascii_digit}
+use Rattle.lexical.proofs.WordLaws.{bare-other, bare-start, digits-all}
 use Rattle.lexical.proofs.is_no_word.Goals as goal
-
-pub returns-then-w-eq0 : goal.returns-then-w-eq0
-returns-then-w-eq0 c = bare-empty c.args.w.now c.if-w-eq0.true
 
 pub returns-then-w-ne114 : goal.returns-then-w-ne114
 returns-then-w-ne114 c = bare-other c.args.w.now c.if-w-eq0.false c.if-w-ne114.true
 
-pub loop-i-init : goal.loop-i-init
-loop-i-init c = bare-start c.args.w.now c.if-w-eq0.false c.if-w-ne114.false
-
-pub returns-then-not-w-i : goal.returns-then-not-w-i
-returns-then-not-w-i c = let l = c.loop-i in sym (digits-stop c.args.w.now l.i c.loop-i-test.true c.if-not-w-i.true) ∙ l.invariant
-
-pub loop-i-preserved : goal.loop-i-preserved
-loop-i-preserved c = let l = c.loop-i in sym (digits-on c.args.w.now l.i c.loop-i-test.true c.if-not-w-i.false) ∙ l.invariant
-
 pub returns : goal.returns
-returns c = let l = c.loop-i in sym (digits-end c.args.w.now l.i c.loop-i-test.false) ∙ l.invariant
+returns c =
+    all_from_yields_List is_ascii_digit _ _ _ c.all.ensures.ran (YieldsList-from_slice _ c.iter.ensures.rest) (λ x b q k. search (rules, tests))
+    ∙ ap (list_all is_ascii_digit) (take_rest c.args.w.now 1) ∙ digits-all (drop 1 c.args.w.now) ∙ bare-start c.args.w.now c.if-w-eq0.false c.if-w-ne114.false
