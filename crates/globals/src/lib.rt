@@ -40,15 +40,12 @@ fn remove_lines(text: &[u8], out: &mut [u8], moves: &mut [usize]) -> usize
     ensures answer { Wrote out.old 0 (unlines (remove_globals (lines_of text.now))) out.new result }
     ensures moves { Wrote moves.old 0 (moves_of (globals_acts (lines_of text.now))) moves.new (length (lines_of text.now)) }
 {
-    let mut i = 0;
     let mut o = 0;
     let mut k = 0;
-    while i < text.len() {
-        let e = lines::find_byte(text, i, 10);
-        let p = put_line(&text[i..e], out, o);
+    for line in lines::each::each(text) {
+        let p = put_line(line.bytes, out, o);
         k = origins::note(moves, k, o, p);
         o = p;
-        i = lines::after(text, e);
     }
     o
 }

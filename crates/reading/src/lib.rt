@@ -102,13 +102,10 @@ pub fn line_uses(line: &[u8], reg: names::Register) -> bool
 pub fn uses(text: &[u8], reg: names::Register) -> bool
     ensures { result ≡ used_in reg.0 (lines_of text.now) }
 {
-    let mut i = 0;
-    while i < text.len() {
-        let e = lines::find_byte(text, i, 10);
-        if line_uses(&text[i..e], reg) {
+    for line in lines::each::each(text) {
+        if line_uses(line.bytes, reg) {
             return true;
         }
-        i = lines::after(text, e);
     }
     false
 }

@@ -1,10 +1,6 @@
-use Prim.Native.Nat.{◌-◌}
-use lib.ListN.{length}
 use Rattle.globals.proofs.Laws.{RemoveInv}
+use Rattle.lines.proofs.EachLaws.{Over}
 use Rattle.globals.proofs.remove_lines.Given as goal
 
-abbrev pub invariant-loop-i : goal.invariant-loop-i
-invariant-loop-i l = RemoveInv l.text l.initial.out l.out l.initial.moves l.moves l.i l.o l.k
-
-abbrev pub decreases-loop-i : goal.decreases-loop-i
-decreases-loop-i l = length l.text - l.i
+abbrev pub invariant-loop-line : goal.invariant-loop-line
+invariant-loop-line l = let it = l.line-iterator in (Over l.text it) × (RemoveInv l.text l.initial.out l.out l.initial.moves l.moves it.at l.o l.k)
