@@ -148,13 +148,10 @@ fn phi_reads(line: &[u8], phi: names::Phi) -> bool
 fn phi_read(text: &[u8], phi: names::Phi) -> bool
     ensures { result ≡ phi_read phi.0 (lines_of text.now) }
 {
-    let mut i = 0;
-    while i < text.len() {
-        let e = lines::find_byte(text, i, 10);
-        if phi_reads(lines::cut(text, i, e), phi) {
+    for line in lines::each::each(text) {
+        if phi_reads(line.bytes, phi) {
             return true;
         }
-        i = lines::after(text, e);
     }
     false
 }
@@ -163,13 +160,10 @@ fn phi_read(text: &[u8], phi: names::Phi) -> bool
 fn phi_stored(text: &[u8], phi: names::Phi) -> bool
     ensures { result ≡ phi_stored phi.0 (lines_of text.now) }
 {
-    let mut i = 0;
-    while i < text.len() {
-        let e = lines::find_byte(text, i, 10);
-        if is_phi(line_store(lines::cut(text, i, e)), phi) {
+    for line in lines::each::each(text) {
+        if is_phi(line_store(line.bytes), phi) {
             return true;
         }
-        i = lines::after(text, e);
     }
     false
 }
@@ -212,13 +206,10 @@ fn any_dead(text: &[u8], own: &[usize], table: &[u8]) -> bool
     requires { Tells own.now (lines_of text.now) table.now }
     ensures { result ≡ any_dead (lines_of text.now) (lines_of text.now) }
 {
-    let mut i = 0;
-    while i < text.len() {
-        let e = lines::find_byte(text, i, 10);
-        if dead_by(line_store(lines::cut(text, i, e)), text, own, table) {
+    for line in lines::each::each(text) {
+        if dead_by(line_store(line.bytes), text, own, table) {
             return true;
         }
-        i = lines::after(text, e);
     }
     false
 }
@@ -393,24 +384,12 @@ fn put_with(
             dead: false,
         };
     }
-    let mut i = 0;
     let mut o = 0;
     let mut k = 0;
-    while i < text.len() {
-        let e = lines::find_byte(text, i, 10);
-        let p = put_line(
-            mode,
-            lines::cut(text, i, e),
-            text,
-            own,
-            table,
-            scratch,
-            out,
-            o,
-        );
+    for line in lines::each::each(text) {
+        let p = put_line(mode, line.bytes, text, own, table, scratch, out, o);
         k = origins::note_next(moves, k, o, p);
         o = p;
-        i = lines::after(text, e);
     }
     Round { end: o, dead: true }
 }

@@ -112,10 +112,7 @@ fn note_line(line: &[u8], own: &[usize], table: &mut [u8])
 pub fn note_lines(text: &[u8], own: &[usize], table: &mut [u8])
     ensures { table.new ≡ note_lines own.now (lines_of text.now) table.old }
 {
-    let mut i = 0;
-    while i < text.len() {
-        let e = lines::find_byte(text, i, 10);
-        note_line(lines::cut(text, i, e), own, table);
-        i = lines::after(text, e);
+    for line in lines::each::each(text) {
+        note_line(line.bytes, own, table);
     }
 }
