@@ -1,13 +1,13 @@
 -- Laws of the loops over tables of raw moves. Assumes nothing.
 use Prim.Native.Nat.{ℕ, zero, suc, ◌+◌, ◌-◌, ◌≤◌, ◌<◌}
-use mathlib.Core.Path.{◌≡◌, refl, sym, ap, ◌∙◌}
-use mathlib.Core.Bool.{Bool, true, false, cond, ◌&&◌}
+use mathlib.Core.Path.{◌≡◌, refl, sym, ap, subst, ◌∙◌}
+use mathlib.Core.Bool.{Bool, cond}
 use mathlib.Core.List.{List, [], ◌∷◌, ◌++◌, append_assoc}
 use native.Mathlib.Omega.{arith}
 use native.Mathlib.Nat.{add-zero}
 use native.Mathlib.Numerals.{add-one}
-use borrow.Author.Tests.{eq-eqb, ne_eqb, ltb-false}
-use lib.Dec.{eqb, ltb}
+use borrow.Author.Tests.{eq-eqb, ne_eqb}
+use lib.Dec.{eqb}
 use lib.ListN.{length, take, drop, get_or, set, length-drop, drop_of_length-le, length-set, get_or-eq_default}
 use lib.Seq.{drop-cons, drop-drop, drop-set-lt, get_or-drop, take-length}
 use Rattle.origins.specs.Inner.Codes.{far_move}
@@ -27,10 +27,6 @@ goes-more : (ms : List ℕ) (j c : ℕ) → goes_to ms j (suc c) ≡ get_or (sta
 goes-more ms j c =
     let q : suc c - 1 ≡ c = omega arith in
     rw (ne_eqb (suc c) 0 (omega arith), q)
-
-pub goes-start : (ms : List ℕ) (d : ℕ) → goes_to ms 0 d ≡ sent_by ms d
-goes-start ms zero = refl
-goes-start ms (suc d) = goes-more ms 0 d
 
 pub goes-few : (ms : List ℕ) (d : ℕ) → length ms < d → far_move ≡ sent_by ms d
 goes-few ms zero h = absurd (omega arith)
@@ -192,21 +188,9 @@ module _ {raw₀ ms raw : List ℕ} {i k : ℕ} (h : CarryInv raw₀ ms raw i k)
             ∙ done_next (sent_by (drop (i + 1) raw) (get_or ms k 0)) (thinned (drop (i + 1) raw₀) (drop (k + 1) ms)) thinned-first;
       }
 
--- where the loop over raw lines ends
-pub carry-left : {raw₀ ms raw : List ℕ} {i k : ℕ} → CarryInv raw₀ ms raw i k → ltb i (length raw) && ltb k (length ms) ≡ false → raw ≡ thinned raw₀ ms
-carry-left {raw₀} {ms} {raw} {i} {k} h z = go (ltb i (length raw)) refl z
-  where
-    go : (b : Bool) → ltb i (length raw) ≡ b → b && ltb k (length ms) ≡ false → raw ≡ thinned raw₀ ms
-    go true e f = carry-out h (ltb-false k (length ms) f)
-    go false e f = carry-end h (ltb-false i (length raw) e)
-
--- where the loop over the lines below ends with some still to come
-pub goes_left : (ms : List ℕ) (j c : ℕ) → ltb j (length ms) && ltb 0 c ≡ false → (c ≡ 0 → ⊥) → far_move ≡ goes_to ms j c
-goes_left ms j c z n = go (ltb j (length ms)) refl z
-  where
-    go : (b : Bool) → ltb j (length ms) ≡ b → b && ltb 0 c ≡ false → far_move ≡ goes_to ms j c
-    go true e f = absurd (n (omega (arith, ltb-false 0 c f)))
-    go false e f = goes_none ms j c (ltb-false j (length ms) e) (omega arith)
+-- the same under other names
+pub carry-at : {raw₀ ms raw raw' : List ℕ} {i k k' : ℕ} → CarryInv raw₀ ms raw i k → raw' ≡ raw → k' ≡ k → CarryInv raw₀ ms raw' i k'
+carry-at {raw₀} {ms} {raw} {raw'} {i} {k} {k'} h p q = subst (λ (l : List ℕ). CarryInv raw₀ ms l i k') (sym p) (subst (λ (n : ℕ). CarryInv raw₀ ms raw i n) (sym q) h)
 
 -- the lines below a place, as a part up to the end
 pub sent-below : (raw : List ℕ) (i d : ℕ) {s : ℕ} → s ≡ sent_by (take (length raw - (i + 1)) (drop (i + 1) raw)) d → s ≡ sent_by (drop (i + 1) raw) d

@@ -11,18 +11,17 @@ fn sent(below: &[usize], d: usize) -> usize
     if below.len() < d {
         return origins::FAR;
     }
-    let mut j = 0;
     let mut c = d;
-    while (j < below.len()) & (0 < c) {
-        if below[j] == 0 {
+    for (j, m) in below.iter().enumerate() {
+        if c == 0 {
+            return j;
+        }
+        if *m == 0 {
             c -= 1;
-            j += 1;
-        } else {
-            j += 1;
         }
     }
     if c == 0 {
-        return j;
+        return below.len();
     }
     origins::FAR
 }
@@ -31,22 +30,18 @@ fn sent(below: &[usize], d: usize) -> usize
 pub fn carry(moves: &[usize], raw: &mut [usize])
     ensures { raw.new ≡ thinned raw.old moves.now }
 {
-    let mut i = 0;
     let mut k = 0;
-    while (i < raw.len()) & (k < moves.len()) {
+    for i in 0..raw.len() {
         if raw[i] == 0 {
+            if k == moves.len() {
+                return;
+            }
             let d = moves[k];
-            if d == 0 {
-                i += 1;
-                k += 1;
-            } else {
+            if d != 0 {
                 let s = sent(&raw[i + 1..], d);
                 raw[i] = s;
-                i += 1;
-                k += 1;
             }
-        } else {
-            i += 1;
+            k += 1;
         }
     }
 }
