@@ -91,33 +91,21 @@ fn record_at(
     }
 }
 
-// How many records a window of `size` has, of lines of which `rest` are left.
-fn least(size: usize, rest: usize) -> usize
-    ensures { result ≡ min size rest }
-{
-    if size < rest {
-        return size;
-    }
-    rest
-}
-
 // Fills a window with the records of the lines that have `k` above them or more, of `n` in all. Its last record is that of the line above, where
 // there is one.
 pub fn fill(ends: &[usize], blocks: &[usize], n: usize, k: usize, recs: &mut [LineRec])
     requires { ((k ≤ n) × ((n ≤ length ends.now) × ((n ≤ length blocks.now) × (0 < length recs.old)))) × (Above k (last_record recs.old)) }
     ensures { recs.new ≡ window_at ends.now blocks.now n k recs.old }
 {
-    let m = least(recs.len(), n - k);
+    let m = recs.len().min(n - k);
     let above = get(recs, recs.len() - 1);
     let mut i = start_below(k, above);
     let mut c = region_below(k, above);
-    let mut j = 0;
-    while j < m {
+    for j in 0..m {
         let rec = record_at(ends, blocks, k + j, i, c);
         put(recs, j, rec);
         i = rec.end + 1;
         c = rec.region;
-        j += 1;
     }
 }
 

@@ -9,9 +9,6 @@ use Rattle.records.proofs.fill.Goals as goal
 pub overflow_sub-n : goal.overflow_sub-n
 overflow_sub-n c = omega (arith, c.requires.0.0)
 
-pub least-m-requires : goal.least-m-requires
-least-m-requires c = tt
-
 pub overflow_sub-recs : goal.overflow_sub-recs
 overflow_sub-recs c = omega (arith, c.requires.0.1.1.1)
 
@@ -21,11 +18,8 @@ get-above-requires c = omega (arith, c.requires.0.1.1.1)
 pub start_below-i-requires : goal.start_below-i-requires
 start_below-i-requires c = subst (λ (a : LineRec). start_below c.args.k a ≤ 2 ^ 63) (sym c.get-above.ensures) c.requires.1.0
 
-pub region_below-c-requires : goal.region_below-c-requires
-region_below-c-requires c = tt
-
 pub loop-j-init : goal.loop-j-init
-loop-j-init c = let a = c.args in window-start a.ends.now a.blocks.now a.n a.k a.recs.now c.least-m.ensures c.get-above.ensures c.start_below-i.ensures c.region_below-c.ensures c.requires.1.1
+loop-j-init c = let a = c.args in window-start a.ends.now a.blocks.now a.n a.k a.recs.now c.min-m.ensures c.get-above.ensures c.start_below-i.ensures c.region_below-c.ensures c.requires.1.1
 
 pub overflow_add-k : goal.overflow_add-k
 overflow_add-k c = omega (arith, (window-lt c.loop-j.invariant c.loop-j-test.true).0, c.ranges.n)
@@ -39,17 +33,8 @@ put-requires c = (window-lt c.loop-j.invariant c.loop-j-test.true).1
 pub overflow_add-i : goal.overflow_add-i
 overflow_add-i c = omega (arith, window-end c.loop-j.invariant c.loop-j-test.true c.record_at-rec.ensures (omega (arith, c.shared_slice_known-1.given (c.args.k + c.loop-j.j))))
 
-pub overflow_add-j : goal.overflow_add-j
-overflow_add-j c = omega (arith, (window-lt c.loop-j.invariant c.loop-j-test.true).0, c.ranges.n)
-
-pub loop-j-smaller : goal.loop-j-smaller
-loop-j-smaller c = omega (arith, c.loop-j-test.true)
-
 pub loop-j-preserved : goal.loop-j-preserved
 loop-j-preserved c = window_on c.loop-j.invariant c.loop-j-test.true c.record_at-rec.ensures c.put.ensures
-
-pub shape_of-recs : goal.shape_of-recs
-shape_of-recs c = c.loop-j.invariant.filling.same
 
 pub returns : goal.returns
 returns c = window-done c.loop-j.invariant c.loop-j-test.false
