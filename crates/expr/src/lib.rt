@@ -134,28 +134,24 @@ fn is_space(b: u8) -> bool
 fn space_from(s: &[u8]) -> usize
     ensures { (result ≤ length s.now) × (drop result s.now ≡ space_start s.now) }
 {
-    let mut i = 0;
-    while i < s.len() {
+    for i in 0..s.len() {
         if !is_space(s[i]) {
             return i;
         }
-        i += 1;
     }
-    i
+    s.len()
 }
 
 // Where `s` ends, before the white space at its end.
 fn space_to(s: &[u8]) -> usize
     ensures { (result ≤ length s.now) × (take result s.now ≡ space_end s.now) }
 {
-    let mut n = s.len();
-    while 0 < n {
-        if !is_space(s[n - 1]) {
-            return n;
+    for n in (0..s.len()).rev() {
+        if !is_space(s[n]) {
+            return n + 1;
         }
-        n -= 1;
     }
-    n
+    0
 }
 
 // `s` without the white space of ASCII around it.
@@ -224,14 +220,7 @@ fn is_number_byte(b: u8) -> bool
 fn all_number(s: &[u8]) -> bool
     ensures { result ≡ all is_number_byte s.now }
 {
-    let mut i = 0;
-    while i < s.len() {
-        if !is_number_byte(s[i]) {
-            return false;
-        }
-        i += 1;
-    }
-    true
+    s.iter().all(|b| is_number_byte(*b))
 }
 
 // Whether a text has two bytes or more, `x` first and `y` last.
@@ -338,21 +327,18 @@ fn elements(s: &[u8], strict: bool) -> bool
     ensures { result ≡ pure_by (purity_cut (quoted_in strict)) s.now }
 {
     let mut start = 0;
-    let mut i = 0;
     let mut opened = 0;
     let mut closed = 0;
-    while i < s.len() {
+    for i in 0..s.len() {
         let b = s[i];
         if (b == b',') & (opened == closed) {
             if !is_pure(purity_cut(&s[start..i], strict)) {
                 return false;
             }
-            i += 1;
-            start = i;
+            start = i + 1;
         } else {
             opened += opens(b);
             closed += closes(b);
-            i += 1;
         }
     }
     let last = &s[start..];

@@ -7,6 +7,7 @@ use Rattle.lines.specs.Lf.{part}
 use Rattle.expr.specs.Pure.{is_pure, pure_by, quoted_in}
 use Rattle.expr.proofs.PureLaws.{array_long, trim-le}
 use Rattle.expr.proofs.WalkLaws.{walk-comma, walk-stop, walk-byte, walk_end, part_falls, opens-le, closes-le, cut-plain, cut_array}
+use Rattle.expr.proofs.+elements_purity_cut.Goals.{elements-then-b-opened+else-not-is_pure, elements-else-b-opened}
 use Rattle.expr.proofs.+elements_purity_cut.Goals as goal
 
 pub elements-loop-i-init : goal.elements-loop-i-init
@@ -22,18 +23,6 @@ elements-returns-then-not-is_pure t c =
     let s = c.args.s.now in
     sym (l.invariant.walked ∙ walk-stop _ s l.start l.i l.opened l.closed (omega arith) c.if-b-opened.true (sym (c.is_pure.ensures ∙ ap is_pure c.purity_cut.ensures) ∙ c.if-not-is_pure.true))
 
-pub elements-loop-i-preserved-then-b-opened : goal.elements-loop-i-preserved-then-b-opened
-elements-loop-i-preserved-then-b-opened t c =
-    let l = c.loop-i in
-    let s = c.args.s.now in
-    record {
-      began = omega arith;
-      inside = omega arith;
-      opened_le = omega arith;
-      closed_le = omega arith;
-      walked = l.invariant.walked ∙ walk-comma _ s l.start l.i l.opened l.closed (omega arith) c.if-b-opened.true (sym (c.is_pure.ensures ∙ ap is_pure c.purity_cut.ensures) ∙ c.if-not-is_pure.false);
-    }
-
 pub elements-overflow_add-opened : goal.elements-overflow_add-opened
 elements-overflow_add-opened t c = omega (arith, c.opens-opened.ensures, opens-le (get_or c.args.s.now c.loop-i.i 0))
 
@@ -46,13 +35,22 @@ elements-loop-i-preserved t c =
     let s = c.args.s.now in
     let o = opens-le (get_or s l.i 0) in
     let k = closes-le (get_or s l.i 0) in
-    record {
-      began = omega arith;
-      inside = omega arith;
-      opened_le = omega (arith, c.opens-opened.ensures);
-      closed_le = omega (arith, c.closes-closed.ensures);
-      walked = l.invariant.walked ∙ walk-byte _ s l.start l.i l.opened l.closed (omega arith) (omega arith) c.if-b-opened.false ∙ rw (c.opens-opened.ensures, c.closes-closed.ensures);
-    }
+    elim c.if-b-opened.branch [
+      elements-then-b-opened+else-not-is_pure w ↦ record {
+        began = omega arith;
+        inside = omega arith;
+        opened_le = omega arith;
+        closed_le = omega arith;
+        walked = rw (w.start-is, w.opened-is, w.closed-is) (l.invariant.walked ∙ walk-comma _ s l.start l.i l.opened l.closed (omega arith) w.if-b-opened.true (sym (w.is_pure.ensures ∙ ap is_pure w.purity_cut.ensures) ∙ w.if-not-is_pure.false));
+      }
+    | elements-else-b-opened w ↦ record {
+        began = omega arith;
+        inside = omega arith;
+        opened_le = omega (arith, w.opens-opened.ensures);
+        closed_le = omega (arith, w.closes-closed.ensures);
+        walked = l.invariant.walked ∙ walk-byte _ s l.start l.i l.opened l.closed (omega arith) (omega arith) w.if-b-opened.false ∙ rw (w.start-is, w.opened-is, w.closed-is, w.opens-opened.ensures, w.closes-closed.ensures);
+      }
+    ]
 
 pub elements-returns-then-is_blank : goal.elements-returns-then-is_blank
 elements-returns-then-is_blank t c =

@@ -20,6 +20,3 @@ invariant-elements-loop-i l = record {
   closed_le : l.closed ≤ l.i;
   walked : pure_by (purity_cut (quoted_in l.strict)) l.s ≡ walk (λ e. is_pure (purity_cut (quoted_in l.strict) e)) l.s l.start l.i l.opened l.closed;
 }
-
-abbrev pub decreases-elements-loop-i : goal.decreases-elements-loop-i
-decreases-elements-loop-i l = length l.s - l.i

@@ -5,7 +5,4 @@ use Rattle.expr.specs.Pure.{space_start}
 use Rattle.expr.proofs.space_from.Given as goal
 
 abbrev pub invariant-loop-i : goal.invariant-loop-i
-invariant-loop-i l = (l.i ≤ length l.s) × (space_start l.s ≡ space_start (drop l.i l.s))
-
-abbrev pub decreases-loop-i : goal.decreases-loop-i
-decreases-loop-i l = length l.s - l.i
+invariant-loop-i l = space_start l.s ≡ space_start (drop l.i l.s)

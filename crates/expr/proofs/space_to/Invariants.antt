@@ -5,7 +5,4 @@ use Rattle.expr.specs.Pure.{space_end}
 use Rattle.expr.proofs.space_to.Given as goal
 
 abbrev pub invariant-loop-n : goal.invariant-loop-n
-invariant-loop-n l = (l.n ≤ length l.s) × (space_end l.s ≡ space_end (take l.n l.s))
-
-abbrev pub decreases-loop-n : goal.decreases-loop-n
-decreases-loop-n l = l.n
+invariant-loop-n l = space_end l.s ≡ space_end (take l.n l.s)
