@@ -25,7 +25,7 @@ use Rattle.parse.specs.declared.Line.{Line}
 use Rattle.parse.specs.declared.Line.TheVariants as line
 use Rattle.words.specs.Runs.{reads_of}
 use Rattle.forms.specs.Breaks.{writes, writes_any, breaks_by, breaks_with, breaks}
-use Rattle.forms.specs.Inner.Breaks.{writes_here, start_len}
+use Rattle.forms.specs.Inner.Breaks.{writes_here}
 
 -- ---- a name, and what stands round it
 
@@ -90,33 +90,6 @@ module _ (n l : List ℕ) (i : ℕ) where
 
 -- ---- the places that `writes_word` looks at
 
-start-le : (b : ℕ) (l : List ℕ) → start_len b l ≤ length l
-unfolding start_len
-start-le b [] = omega arith
-start-le b (x ∷ xs) = go (eqb x b || eqb x 43) (start-le b xs)
-  where
-    go : (t : Bool) → start_len b xs ≤ length xs → cond t 0 (suc (start_len b xs)) ≤ suc (length xs)
-    go true h = omega arith
-    go false h = omega arith
-
-start-cons : (b x : ℕ) (xs : List ℕ) (t : Bool) → (eqb x b || eqb x 43) ≡ t → start_len b (x ∷ xs) ≡ cond t 0 (suc (start_len b xs))
-unfolding start_len
-start-cons b x xs t e = rw e
-
-module _ (b : ℕ) (l : List ℕ) (j : ℕ) where
-  pub start-here : j < length l → (eqb (get_or l j 0) b || eqb (get_or l j 0) 43) ≡ true → start_len b (drop j l) ≡ 0
-  start-here h e = rw (cons-at l j h) (start-cons b _ _ true e)
-
-  pub start-on : j < length l → (eqb (get_or l j 0) b || eqb (get_or l j 0) 43) ≡ false → start_len b (drop j l) ≡ suc (start_len b (drop (j + 1) l))
-  start-on h e = rw (cons-at l j h) (start-cons b _ _ false e)
-
-  pub start-end : length l ≤ j → start_len b (drop j l) ≡ 0
-  unfolding start_len
-  start-end h = rw (drop_of_length-le l h)
-
-  pub start_fits : (k : ℕ) → j ≤ length l → k ≡ j + start_len b (drop j l) → k ≤ length l
-  start_fits k h e = omega (arith, start-le b (drop j l), length-drop j l)
-
 -- nothing is written at a byte that is neither the first of the name nor a `+`
 here-not : (b x : ℕ) (n xs : List ℕ) → (eqb x b || eqb x 43) ≡ false → writes_here (b ∷ n) (x ∷ xs) ≡ false
 unfolding writes_here prefixed
@@ -127,21 +100,10 @@ here-not b x n xs e = go (eqb x b) (eqb x 43) refl refl e
     go false true p q h = no (sym h)
     go false false p q h = rw (eqb-sym b x ∙ p, eqb-sym 43 x ∙ q)
 
-skip-starts : (b : ℕ) (n l : List ℕ) → writes (b ∷ n) (drop (start_len b l) l) ≡ writes (b ∷ n) l
-unfolding start_len
-skip-starts b n [] = refl
-skip-starts b n (x ∷ xs) = go (eqb x b || eqb x 43) refl (skip-starts b n xs)
-  where
-    go : (t : Bool) → (eqb x b || eqb x 43) ≡ t → writes (b ∷ n) (drop (start_len b xs) xs) ≡ writes (b ∷ n) xs →
-        writes (b ∷ n) (drop (cond t 0 (suc (start_len b xs))) (x ∷ xs)) ≡ writes (b ∷ n) (x ∷ xs)
-    go true e h = refl
-    go false e h = h ∙ sym (writes-cons (b ∷ n) x xs ∙ ap (λ (t : Bool). t || writes (b ∷ n) xs) (here-not b x n xs e))
-
--- so the search goes on at the next such byte
-pub writes-skip : (n l : List ℕ) (j k : ℕ) → 0 < length n → k ≡ j + start_len (get_or n 0 0) (drop j l) → writes n (drop k l) ≡ writes n (drop j l)
-writes-skip [] l j k h e = absurd (omega arith)
-writes-skip (b ∷ n) l j k h e =
-    ap (λ (m : ℕ). writes (b ∷ n) (drop m l)) e ∙ ap (writes (b ∷ n)) (sym (drop-drop (start_len b (drop j l)) j l)) ∙ skip-starts b n (drop j l)
+-- so the search goes on at the next byte
+pub writes-skip : (n l : List ℕ) (j : ℕ) → 0 < length n → j < length l → (eqb (get_or l j 0) (get_or n 0 0) || eqb (get_or l j 0) 43) ≡ false → writes n (drop j l) ≡ writes n (drop (j + 1) l)
+writes-skip [] l j h k e = absurd (omega arith)
+writes-skip (b ∷ n) l j h k e = writes_at (b ∷ n) l j k false (ap (writes_here (b ∷ n)) (rest_of l j ∙ cons-at l j k) ∙ here-not b _ n _ e)
 
 -- a name without bytes
 pub writes-empty : (n l : List ℕ) → length n ≡ 0 → (holds (32 ∷ 61 ∷ []) l || holds (43 ∷ 43 ∷ []) l) ≡ writes n l

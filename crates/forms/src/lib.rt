@@ -10,7 +10,7 @@ ghost use Rattle.forms.specs.Control.{is_control};
 ghost use Rattle.forms.specs.Inner.Control.{control_front};
 ghost use Rattle.forms.specs.Primary.{all_idents, is_plain_ref, keyword, is_operator, bare_go, is_primary, bare, paren_if_needed};
 ghost use Rattle.forms.specs.Breaks.{writes, writes_any, breaks_with};
-ghost use Rattle.forms.specs.Inner.Breaks.{writes_here, start_len};
+ghost use Rattle.forms.specs.Inner.Breaks.{writes_here};
 
 // Whether a line, its front trimmed, begins as one that a condition or a loop begins.
 fn begins_control(t: &[u8]) -> bool
@@ -201,32 +201,18 @@ fn writes_here(name: &[u8], l: &[u8]) -> bool
     lines::starts_with(lines::cut(l, 2, l.len()), name)
 }
 
-// The place of the first byte from `i` on that is `b` or `+`, or the end.
-fn find_start(line: &[u8], i: usize, b: u8) -> usize
-    ensures { result ≡ i + start_len b (drop i line.now) }
-{
-    let mut j = i;
-    while j < line.len() {
-        if (line[j] == b) | (line[j] == b'+') {
-            return j;
-        }
-        j += 1;
-    }
-    j
-}
-
 // Whether `name =`, `name++` or `++name` stands in a line: where its first byte does, or a `+`.
 fn writes_word(name: &[u8], line: &[u8]) -> bool
     requires { 0 < length name.now }
     ensures { result ≡ writes name.now line.now }
 {
     let b = name[0];
-    let mut i = find_start(line, 0, b);
-    while i < line.len() {
-        if writes_here(name, &line[i..]) {
-            return true;
+    for i in 0..line.len() {
+        if (line[i] == b) | (line[i] == b'+') {
+            if writes_here(name, &line[i..]) {
+                return true;
+            }
         }
-        i = find_start(line, i + 1, b);
     }
     false
 }
