@@ -54,13 +54,10 @@ fn declares(t: &[u8], name: &[u8]) -> bool
 fn declared_in(text: &[u8], name: &[u8]) -> bool
     ensures { result ≡ declared_in name.now (lines_of text.now) }
 {
-    let mut i = 0;
-    while i < text.len() {
-        let e = lines::find_byte(text, i, 10);
-        if declares(text::trim(&text[i..e]), name) {
+    for line in lines::each::each(text) {
+        if declares(text::trim(line.bytes), name) {
             return true;
         }
-        i = lines::after(text, e);
     }
     false
 }
@@ -111,13 +108,10 @@ fn temp_read(text: &[u8], name: &[u8]) -> bool
     requires { is_temp name.now ≡ true }
     ensures { result ≡ temp_read name.now (lines_of text.now) }
 {
-    let mut i = 0;
-    while i < text.len() {
-        let e = lines::find_byte(text, i, 10);
-        if 0 < temp_reads(text::trim(&text[i..e]), name) {
+    for line in lines::each::each(text) {
+        if 0 < temp_reads(text::trim(line.bytes), name) {
             return true;
         }
-        i = lines::after(text, e);
     }
     false
 }
@@ -240,25 +234,12 @@ fn prune_with(
     ensures memory { scratch.new ≡ temp_scratch (strict_at mode.0) (lines_of text.now) scratch.old }
     ensures moves { Wrote moves.old 0 (moves_of (prune_dead_temps_acts (reading_of mode.0) (lines_of text.now))) moves.new (length (lines_of text.now)) }
 {
-    let mut i = 0;
     let mut o = 0;
     let mut k = 0;
-    while i < text.len() {
-        let e = lines::find_byte(text, i, 10);
-        let p = put_line(
-            mode,
-            &text[i..e],
-            text,
-            own,
-            declared,
-            read,
-            scratch,
-            out,
-            o,
-        );
+    for line in lines::each::each(text) {
+        let p = put_line(mode, line.bytes, text, own, declared, read, scratch, out, o);
         k = origins::note(moves, k, o, p);
         o = p;
-        i = lines::after(text, e);
     }
     o
 }
@@ -306,14 +287,10 @@ pub fn has_temp(s: &[u8]) -> bool
     }
     let end = s.len() - 1;
     let mut least = 255;
-    let mut i = 0;
-    while i < end {
+    for i in 0..end {
         let x = after_t(s[i], s[i + 1]);
         if x < least {
             least = x;
-            i += 1;
-        } else {
-            i += 1;
         }
     }
     least < 10

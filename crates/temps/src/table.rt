@@ -117,11 +117,8 @@ fn claim_decl(t: &[u8], low: usize, own: &mut [usize]) {
 
 // The same of the lines of a text.
 fn claim_lines(text: &[u8], low: usize, own: &mut [usize]) {
-    let mut i = 0;
-    while i < text.len() {
-        let e = lines::find_byte(text, i, 10);
-        claim_decl(text::trim(lines::cut(text, i, e)), low, own);
-        i = lines::after(text, e);
+    for line in lines::each::each(text) {
+        claim_decl(text::trim(line.bytes), low, own);
     }
 }
 
@@ -140,14 +137,10 @@ fn may_lead(s: &[u8]) -> bool {
     }
     let end = s.len() - 2;
     let mut least = 255;
-    let mut i = 0;
-    while i < end {
+    for i in 0..end {
         let x = after_zero(s[i], s[i + 1], s[i + 2]);
         if x < least {
             least = x;
-            i += 1;
-        } else {
-            i += 1;
         }
     }
     least < 10
@@ -227,11 +220,8 @@ fn flag_line(line: &[u8], own: &[usize], table: &mut [u8])
 pub fn flag_decls(text: &[u8], own: &[usize], table: &mut [u8])
     ensures { table.new ≡ flag_decls own.now (lines_of text.now) table.old }
 {
-    let mut i = 0;
-    while i < text.len() {
-        let e = lines::find_byte(text, i, 10);
-        flag_line(lines::cut(text, i, e), own, table);
-        i = lines::after(text, e);
+    for line in lines::each::each(text) {
+        flag_line(line.bytes, own, table);
     }
 }
 
@@ -260,17 +250,14 @@ fn flag_runs(s: &[u8], own: &[usize], left: &[u8], k: bool, table: &mut [u8])
 {
     let mut skip = k;
     let mut a = 0;
-    let mut i = 0;
-    while i < s.len() {
+    for i in 0..s.len() {
         if text::is_name_byte(s[i]) {
-            i += 1;
-        } else {
-            skip = flag_run(&s[a..i], own, left, skip, table);
-            i += 1;
-            a = i;
+            continue;
         }
+        skip = flag_run(&s[a..i], own, left, skip, table);
+        a = i + 1;
     }
-    flag_run(&s[a..i], own, left, skip, table);
+    flag_run(&s[a..], own, left, skip, table);
 }
 
 // Sets the flags of the temps that a trimmed line reads.
@@ -290,11 +277,8 @@ fn flag_reads(t: &[u8], own: &[usize], table: &mut [u8])
 fn flag_lines(text: &[u8], own: &[usize], table: &mut [u8])
     ensures { table.new ≡ flag_lines own.now (lines_of text.now) table.old }
 {
-    let mut i = 0;
-    while i < text.len() {
-        let e = lines::find_byte(text, i, 10);
-        flag_reads(text::trim(lines::cut(text, i, e)), own, table);
-        i = lines::after(text, e);
+    for line in lines::each::each(text) {
+        flag_reads(text::trim(line.bytes), own, table);
     }
 }
 
@@ -302,12 +286,10 @@ fn flag_lines(text: &[u8], own: &[usize], table: &mut [u8])
 fn any_flag(table: &[u8]) -> bool
     ensures { result ≡ any_flag table.now }
 {
-    let mut i = 0;
-    while i < table.len() {
-        if table[i] == 1 {
+    for &x in table {
+        if x == 1 {
             return true;
         }
-        i += 1;
     }
     false
 }

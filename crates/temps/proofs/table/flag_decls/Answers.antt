@@ -1,20 +1,18 @@
-use Rattle.std.proofs.Common.{refl, arith}
+use Rattle.std.proofs.Common.{refl}
 use Rattle.text.specs.Trim.{trim_of}
 use Rattle.temps.specs.Inner.Table.{flag_decls}
 use Rattle.temps.proofs.TableLaws.{flag-start, decls-on, decls-done}
+use Rattle.lines.proofs.EachLaws.{at-front, goes, stops}
 use Rattle.temps.proofs.table.flag_decls.Goals as goal
 
-pub loop-i-init : goal.loop-i-init
-loop-i-init c = flag-start (flag_decls c.args.own.now) _ _
+pub loop-line-init : goal.loop-line-init
+loop-line-init c = let e = c.into_iter-line-iterator.ensures.into_iter_gives in let g = c.each-line-items.ensures in (at-front e g.text g.front, rw (e, g.front) (flag-start (flag_decls c.args.own.now) _ _))
 
-pub loop-i-smaller : goal.loop-i-smaller
-loop-i-smaller c = omega (arith, c.after-i.ensures, c.find_byte-e.ensures, c.loop-i-test.true)
-
-pub loop-i-preserved : goal.loop-i-preserved
-loop-i-preserved c = decls-on _ c.loop-i.invariant c.find_byte-e.result c.after-i.result c.cut.result.now (trim_of c.cut.result.now) _ c.loop-i-test.true c.find_byte-e.ensures c.cut.ensures refl c.flag_line.ensures c.after-i.ensures
+pub loop-line-preserved : goal.loop-line-preserved
+loop-line-preserved c = let k = goes c.loop-line.invariant.0 c.in-Some.ensures.steps in (k.on, decls-on _ c.loop-line.invariant.1 c.in-Some.line.to _ c.in-Some.line.bytes.now (trim_of c.in-Some.line.bytes.now) _ k.here.starts k.here.to k.here.bytes refl c.flag_line.ensures k.here.next)
 
 pub shape_of-table : goal.shape_of-table
-shape_of-table c = c.loop-i.invariant.long
+shape_of-table c = c.loop-line.invariant.1.long
 
 pub returns : goal.returns
-returns c = decls-done _ c.loop-i.invariant c.loop-i-test.false
+returns c = decls-done _ c.loop-line.invariant.1 (stops c.loop-line.invariant.0 c.in-None.ensures.steps)
