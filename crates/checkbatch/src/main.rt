@@ -3,117 +3,88 @@
 
 mod wire;
 
-ghost use Rattle.std.specs.Prelude.{◌≡◌, ◌≤◌, length};
-
+use input::lent;
 use pruned::Judged;
+use wire::Request;
 
 // Room for a text: one byte more than is taken, so that a longer text is seen.
-fn text_room() -> [u8; 16385]
-    ensures { 16385 ≡ length result }
-{
-    [0; 16385]
+const TEXT: usize = 16385;
+
+// How much longer a work buffer is than it has to be.
+const MORE: usize = 8;
+
+// The work buffers.
+#[derive(Drop)]
+struct Work {
+    a: [u8; pruned::BYTES + MORE],
+    b: [u8; pruned::BYTES + MORE],
+    c: [u8; pruned::BYTES + MORE],
+    live: [u8; pruned::PLACES + MORE],
 }
 
-// A filled work buffer of bytes, some longer than it has to be.
-fn byte_room() -> [u8; 16393]
-    ensures { 16393 ≡ length result }
-{
-    [input::lent::BYTE; 16393]
-}
-
-// A filled work buffer of places, some longer than it has to be.
-fn place_room() -> [u8; 1033]
-    ensures { 1033 ≡ length result }
-{
-    [input::lent::BYTE; 1033]
-}
-
-// How much of the work buffer `which` is lent, of `there`: one byte less than is stated where the request says so.
-fn lent_of(there: usize, short: usize, which: usize, stated: usize) -> usize
-    ensures { result ≤ there }
-{
-    if short == which {
-        if stated <= there {
-            if 0 < stated {
-                return stated - 1;
-            }
+impl Work {
+    // Filled buffers.
+    fn new() -> Work {
+        Work {
+            a: [lent::BYTE; pruned::BYTES + MORE],
+            b: [lent::BYTE; pruned::BYTES + MORE],
+            c: [lent::BYTE; pruned::BYTES + MORE],
+            live: [lent::BYTE; pruned::PLACES + MORE],
         }
     }
-    there
-}
 
-// Lends as much of each buffer as the request says.
-fn ask(
-    short: usize,
-    raw: &[u8],
-    other: &[u8],
-    a: &mut [u8],
-    b: &mut [u8],
-    c: &mut [u8],
-    live: &mut [u8],
-) -> Judged {
-    let ka = lent_of(a.len(), short, 1, pruned::BYTES);
-    let kb = lent_of(b.len(), short, 2, pruned::BYTES);
-    let kc = lent_of(c.len(), short, 3, pruned::BYTES);
-    let kl = lent_of(live.len(), short, 4, pruned::PLACES);
-    pruned::check_pruning(
-        raw,
-        other,
-        &mut a[..ka],
-        &mut b[..kb],
-        &mut c[..kc],
-        &mut live[..kl],
-    )
-}
+    // Checks a text against a raw one, and lends as much of each buffer as is asked: the one that is `short` lacks a byte of what is stated.
+    fn check(&mut self, short: u8, raw: &[u8], other: &[u8]) -> Judged {
+        pruned::check_pruning(
+            raw,
+            other,
+            lent::part(&mut self.a, short == 1, pruned::BYTES),
+            lent::part(&mut self.b, short == 2, pruned::BYTES),
+            lent::part(&mut self.c, short == 3, pruned::BYTES),
+            lent::part(&mut self.live, short == 4, pruned::PLACES),
+        )
+    }
 
-// Whether the lines were held against one another.
-fn has_run(got: Judged) -> bool {
-    let number = pruned::number_of(got);
-    (number == 0) | (number == 7)
+    // Whether each buffer is as it should be.
+    fn is_fixed(&self, ran: bool) -> bool {
+        lent::as_fixed(&self.a, pruned::BYTES, ran)
+            & lent::as_fixed(&self.b, pruned::BYTES, ran)
+            & lent::as_fixed(&self.c, pruned::BYTES, ran)
+            & lent::as_fixed(&self.live, pruned::PLACES, ran)
+    }
 }
 
 // Answers a request over buffers that are filled anew, and returns whether the answer went out.
-fn answer(rt: &HostRuntime, short: usize, raw: &[u8], other: &[u8]) -> bool {
-    let mut a = byte_room();
-    let mut b = byte_room();
-    let mut c = byte_room();
-    let mut live = place_room();
-    let got = ask(short, raw, other, &mut a, &mut b, &mut c, &mut live);
-    let ran = has_run(got);
-    let memory = input::lent::as_fixed(&a, pruned::BYTES, ran)
-        & input::lent::as_fixed(&b, pruned::BYTES, ran)
-        & input::lent::as_fixed(&c, pruned::BYTES, ran)
-        & input::lent::as_fixed(&live, pruned::PLACES, ran);
-    wire::write_answer(rt, pruned::number_of(got), memory, pruned::place_of(got))
-}
-
-// Reads the two texts of a request and answers it, and returns whether to go on.
-fn serve(rt: &HostRuntime, short: usize) -> bool {
-    let mut raw = text_room();
-    let mut other = text_room();
-    let mut from = rt.stdin();
-    let n = wire::read_text(&mut from, &mut raw);
-    let m = wire::read_text(&mut from, &mut other);
-    if (n == wire::CUT) | (m == wire::CUT) {
-        return false;
-    }
-    answer(rt, short, lines::cut(&raw, 0, n), lines::cut(&other, 0, m))
+fn answer(rt: &HostRuntime, short: u8, raw: &[u8], other: &[u8]) -> bool {
+    let mut work = Work::new();
+    let got = work.check(short, raw, other);
+    let number = pruned::number_of(got);
+    // The lines were held against one another where the number is one of these.
+    let ran = matches!(number, 0 | 7);
+    wire::write_answer(rt, number, work.is_fixed(ran), pruned::place_of(got))
 }
 
 // Reads a request and answers it, and returns whether to go on.
 fn serve_one(rt: &HostRuntime) -> bool {
+    let mut raw = [0; TEXT];
+    let mut other = [0; TEXT];
     let mut from = rt.stdin();
-    let short = wire::read_one(&mut from);
-    if short == 256 {
-        return false;
+    match wire::read_request(&mut from, &mut raw, &mut other) {
+        Some(q) => answer(
+            rt,
+            q.short,
+            lines::cut(&raw, 0, q.raw),
+            lines::cut(&other, 0, q.other),
+        ),
+        None => false,
     }
-    serve(rt, short)
 }
 
 // Answers until the input ends. No run uses up the turns.
 fn main(rt: HostRuntime) {
-    let mut turns = u64::MAX;
-    while turns > 0 && serve_one(&rt) {
-        turns -= 1;
+    for _ in 0..u64::MAX {
+        if !serve_one(&rt) {
+            return;
+        }
     }
 }

@@ -1,42 +1,46 @@
 // Requests to check prunings, and answers to them.
 use input::host;
-use input::wire::{byte_at, four, read_bytes, read_full, wide};
+use input::wire::{read_bytes, read_full};
 use std::io::Stdin;
 
-// More than a length of four bytes is.
-pub const CUT: usize = 4294967296;
-
-// Reads four bytes as a number, and then a text of that length; how much of it there is, or 4 GiB where it was cut.
-pub fn read_text(from: &mut Stdin, text: &mut [u8]) -> usize {
-    let mut h = [0u8; 4];
-    if read_full(from, &mut h) != 4 {
-        return CUT;
-    }
-    let n = four(h[0], h[1], h[2], h[3]);
-    if read_bytes(from, n, text) {
-        return n;
-    }
-    CUT
+// A request: which work buffer is short, and how much there is of the raw text and of the other.
+#[derive(Clone, Copy)]
+pub struct Request {
+    pub short: u8,
+    pub raw: usize,
+    pub other: usize,
 }
 
-// Reads one byte; 256 where none came.
-pub fn read_one(from: &mut Stdin) -> usize {
-    let mut h = [0u8; 1];
-    if read_full(from, &mut h) != 1 {
-        return 256;
+// Reads one byte.
+fn read_one(from: &mut Stdin) -> Option<u8> {
+    let mut byte = [0; 1];
+    (read_full(from, &mut byte) == byte.len()).then_some(byte[0])
+}
+
+// Reads four bytes as a number, and then a text of that length: how much of it there is.
+fn read_text(from: &mut Stdin, text: &mut [u8]) -> Option<usize> {
+    let mut size = [0; 4];
+    if read_full(from, &mut size) != size.len() {
+        return None;
     }
-    wide(h[0])
+    let n = u32::from_le_bytes(size) as usize;
+    read_bytes(from, n, text).then_some(n)
+}
+
+// Reads a request and its texts; none where the input ends, also within one.
+pub fn read_request(from: &mut Stdin, raw: &mut [u8], other: &mut [u8]) -> Option<Request> {
+    Some(Request {
+        short: read_one(from)?,
+        raw: read_text(from, raw)?,
+        other: read_text(from, other)?,
+    })
 }
 
 // Writes an answer, and returns whether it went out.
 pub fn write_answer(rt: &HostRuntime, number: u8, memory: bool, place: usize) -> bool {
-    let h = [
-        number,
-        if memory { 1 } else { 0 },
-        byte_at(place, 1),
-        byte_at(place, 256),
-        byte_at(place, 65536),
-        byte_at(place, 16777216),
-    ];
-    host::is_whole(host::write(rt, &h))
+    let mut head = [0; 6];
+    head[0] = number;
+    head[1] = u8::from(memory);
+    head[2..].copy_from_slice(&place.to_le_bytes()[..4]);
+    host::is_whole(host::write(rt, &head))
 }

@@ -50,3 +50,12 @@ pub fn blocks_as_fixed(s: &[u32], stated: usize, ran: bool) -> bool {
     }
     all_blocks_are(&s[..stated], 0) & all_blocks_are(&s[stated..], BLOCK)
 }
+
+// What is lent of a buffer: all, or one element less than is stated where it is to be short.
+pub fn part<T>(buffer: &mut [T], short: bool, stated: usize) -> &mut [T] {
+    if short && 0 < stated && stated <= buffer.len() {
+        &mut buffer[..stated - 1]
+    } else {
+        buffer
+    }
+}
