@@ -11,8 +11,9 @@ use Rattle.lines.specs.Steps.{split_lines}
 use Rattle.lines.proofs.ActLaws.{apply-length}
 use Rattle.text.specs.Trim.{lead, from_of, end_white, to_of, trim_of}
 use Rattle.names.specs.Names.{reg_of, reg_text}
-use Rattle.names.specs.declared.RegName.{RegName}
-use Rattle.names.specs.declared.RegName.TheVariants as name
+use Rattle.std.specs.declared.option.Option.{Option}
+use Rattle.names.specs.declared.Register.{Register}
+use Rattle.std.specs.declared.option.Option.TheVariants.{Some, None}
 use Rattle.parse.specs.Parse.{let_word, body_of, is_decl, store_in, parse_of, text_of}
 use Rattle.words.specs.Runs.{runs_go, runs, count_by}
 use Rattle.place.specs.Region.{is_header, until_header, region, region_at}
@@ -120,9 +121,9 @@ names_same run run' h [] = refl
 names_same run run' h (p ∷ ps) =
     ap (λ (r : List (List ℕ)). r ++ keep_names run' ps) (one (reg_of (trim_of p))) ∙ ap (λ (r : List (List ℕ)). keep_one run (reg_of (trim_of p)) ++ r) (names_same run run' h ps)
   where
-    one : (n : RegName) → keep_one run' n ≡ keep_one run n
-    one name.None = refl
-    one (name.Reg q) = ap (λ (b : Bool). cond b (reg_text q.0 ∷ []) []) (h q.0)
+    one : (n : Option Register) → keep_one run' n ≡ keep_one run n
+    one None = refl
+    one (Some q) = ap (λ (b : Bool). cond b (reg_text q.0 ∷ []) []) (h q.0)
 
 -- the act by what the line is
 act_by : Bool → List (List ℕ) → List ℕ → Act

@@ -15,12 +15,12 @@ fn say_words(t: &[u8], out: &mut [u8]) -> usize {
     let mut i = 0;
     while i < t.len() {
         match lexical::next_word(t, i) {
-            lexical::Word::At(w) => {
+            Some(w) => {
                 let o = say(out, p, lines::cut(t, w.from, w.to));
                 p = say_byte(out, o, 10);
                 i = if i < w.to { w.to } else { t.len() };
             }
-            lexical::Word::None => i = t.len(),
+            None => i = t.len(),
         }
     }
     p

@@ -4,30 +4,30 @@ use crate::say::{nothing, say, say_byte, say_eight, say_flag};
 // 0, or 1 and the number of the register that a text names.
 fn reg_name(a: &[u8], out: &mut [u8]) -> usize {
     match names::reg_name(a) {
-        names::RegName::Reg(q) => {
+        Some(q) => {
             let o = say_byte(out, 0, 1);
             say_eight(out, o, q.0)
         }
-        names::RegName::None => say_byte(out, 0, 0),
+        None => say_byte(out, 0, 0),
     }
 }
 
 // 0, or 1 and the number of the phi that a text names.
 fn phi_name(a: &[u8], out: &mut [u8]) -> usize {
     match names::phi_name(a) {
-        names::PhiName::Phi(q) => {
+        Some(q) => {
             let o = say_byte(out, 0, 1);
             say_eight(out, o, q.0)
         }
-        names::PhiName::None => say_byte(out, 0, 0),
+        None => say_byte(out, 0, 0),
     }
 }
 
 // The register that a piece of a declaration names.
 fn say_reg(piece: &[u8], out: &mut [u8], o: usize) -> usize {
     match names::reg_name(text::trim(piece)) {
-        names::RegName::Reg(q) => say_eight(out, o, q.0),
-        names::RegName::None => nothing(),
+        Some(q) => say_eight(out, o, q.0),
+        None => nothing(),
     }
 }
 

@@ -38,11 +38,11 @@ fn join(a: &[u8], ended: bool, out: &mut [u8]) -> usize {
 // 0, or 1 and the first line with more than 64 bytes `[`.
 fn crowded(a: &[u8], out: &mut [u8]) -> usize {
     match lines::crowded_line(a, 64) {
-        lines::Crowded::At(n) => {
+        Some(n) => {
             let o = say_byte(out, 0, 1);
             say_eight(out, o, n as u64)
         }
-        lines::Crowded::Nowhere => say_byte(out, 0, 0),
+        None => say_byte(out, 0, 0),
     }
 }
 

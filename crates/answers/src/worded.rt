@@ -26,20 +26,20 @@ fn replaced(a: &[u8], w: text::Span, b: &[u8], out: &mut [u8]) -> usize {
 // 0, or 1 and the line with a register replaced by a text.
 fn replace_reg(a: &[u8], number: u64, b: &[u8], out: &mut [u8]) -> usize {
     match words::find_reg(a, names::Register(number)) {
-        words::Hit::One(w) => replaced(a, w, b, out),
-        words::Hit::Not => say_byte(out, 0, 0),
+        Some(w) => replaced(a, w, b, out),
+        None => say_byte(out, 0, 0),
     }
 }
 
 // 0, or 1 and whether the one place of a register stands after `new`, and whether it is a target.
 fn occurrence_context(a: &[u8], number: u64, out: &mut [u8]) -> usize {
     match words::find_reg(a, names::Register(number)) {
-        words::Hit::One(w) => {
+        Some(w) => {
             let o = say_byte(out, 0, 1);
             let p = say_flag(out, o, words::after_new(a, w.from));
             say_flag(out, p, words::as_target(a, w.to))
         }
-        words::Hit::Not => say_byte(out, 0, 0),
+        None => say_byte(out, 0, 0),
     }
 }
 

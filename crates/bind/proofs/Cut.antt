@@ -12,8 +12,9 @@ use Rattle.lines.proofs.ActLaws.{apply-append}
 use Rattle.lines.proofs.Tests.{no, and_right}
 use Rattle.text.specs.Trim.{from_of, trim_of}
 use Rattle.names.specs.Names.{reg_of}
-use Rattle.names.specs.declared.RegName.{RegName}
-use Rattle.names.specs.declared.RegName.TheVariants as name
+use Rattle.std.specs.declared.option.Option.{Option}
+use Rattle.names.specs.declared.Register.{Register}
+use Rattle.std.specs.declared.option.Option.TheVariants.{Some, None}
 use Rattle.place.specs.Region.{is_header}
 use Rattle.place.specs.Inner.Region.{headed}
 use Rattle.place.specs.Blocks.{blocks}
@@ -53,9 +54,9 @@ bound-near : (v : ℕ) (above : List (List ℕ)) (d : BlockLine) (below : List B
 bound-near v above d below h = store_lt v d.block (first_use v below) below (bound-store v above d below h)
 
 module _ (above : List (List ℕ)) (d : BlockLine) (below : List BlockLine) where
-  one-long : (r : RegName) (ms : List Bool) → length ms ≤ length below → length (mark_one r above d below ms) ≤ length below
-  one-long name.None ms h = h
-  one-long (name.Reg q) ms h = go (bound q.0 above d below) (bound-near q.0 above d below)
+  one-long : (r : Option Register) (ms : List Bool) → length ms ≤ length below → length (mark_one r above d below ms) ≤ length below
+  one-long None ms h = h
+  one-long (Some q) ms h = go (bound q.0 above d below) (bound-near q.0 above d below)
     where
       go : (b : Bool) → (b ≡ true → first_use q.0 below < length below) → length (cond b (mark (first_use q.0 below) ms) ms) ≤ length below
       go true f = mark-long (first_use q.0 below) (length below) ms (f refl) h
@@ -152,22 +153,22 @@ module _ (ren : ℕ → ℕ) (inj : (a b : ℕ) → eqb (ren a) (ren b) ≡ eqb 
     same-any [] = refl
     same-any (p ∷ ps) = go (reg_of (trim_of p)) (same-any ps)
       where
-        go : (n : RegName) → any_bound ps above s ss ≡ any_bound ps above d ds → bound_by n above s ss || any_bound ps above s ss ≡ bound_by n above d ds || any_bound ps above d ds
-        go name.None e = e
-        go (name.Reg q) e = rw (same-bound q.0, e)
+        go : (n : Option Register) → any_bound ps above s ss ≡ any_bound ps above d ds → bound_by n above s ss || any_bound ps above s ss ≡ bound_by n above d ds || any_bound ps above d ds
+        go None e = e
+        go (Some q) e = rw (same-bound q.0, e)
 
     same-unbound : (ps : List (List ℕ)) → unbound ps above s ss ≡ unbound ps above d ds
     unfolding unbound
     same-unbound [] = refl
     same-unbound (p ∷ ps) = go (reg_of (trim_of p)) (same-unbound ps)
       where
-        go : (n : RegName) → unbound ps above s ss ≡ unbound ps above d ds → unbound_one n above s ss ++ unbound ps above s ss ≡ unbound_one n above d ds ++ unbound ps above d ds
-        go name.None e = e
-        go (name.Reg q) e = rw (same-bound q.0, e)
+        go : (n : Option Register) → unbound ps above s ss ≡ unbound ps above d ds → unbound_one n above s ss ++ unbound ps above s ss ≡ unbound_one n above d ds ++ unbound ps above d ds
+        go None e = e
+        go (Some q) e = rw (same-bound q.0, e)
 
-    same-mark : (n : RegName) (ms : List Bool) → mark_one n above s ss ms ≡ mark_one n above d ds ms
-    same-mark name.None ms = refl
-    same-mark (name.Reg q) ms = rw (same-bound q.0, level-first q.0 r)
+    same-mark : (n : Option Register) (ms : List Bool) → mark_one n above s ss ms ≡ mark_one n above d ds ms
+    same-mark None ms = refl
+    same-mark (Some q) ms = rw (same-bound q.0, level-first q.0 r)
 
     same-marks : (ps : List (List ℕ)) (ms : List Bool) → mark_all ps above s ss ms ≡ mark_all ps above d ds ms
     unfolding mark_all

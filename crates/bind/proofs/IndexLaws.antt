@@ -11,8 +11,9 @@ use Rattle.lines.specs.Lf.{part, up_to, prefixed, ends_in, lines_of, parts_of}
 use Rattle.lines.proofs.LfLaws.{lines-at, lines_end, parts_at, parts-at-end}
 use Rattle.text.specs.Trim.{from_of, trim_of}
 use Rattle.names.specs.Names.{reg_of}
-use Rattle.names.specs.declared.RegName.{RegName}
-use Rattle.names.specs.declared.RegName.TheVariants as name
+use Rattle.std.specs.declared.option.Option.{Option}
+use Rattle.names.specs.declared.Register.{Register}
+use Rattle.std.specs.declared.option.Option.TheVariants.{Some, None}
 use Rattle.parse.specs.Parse.{body_of, is_decl, store_by, split_store, store_in, parse_of, text_of}
 use Rattle.parse.specs.declared.Store.{Store}
 use Rattle.parse.specs.declared.Line.{Line}
@@ -82,9 +83,9 @@ module _ (own : List ℕ) (m b v : ℕ) (d u : List ℕ) (s : length d ≡ lengt
 module _ (own : List ℕ) where
   -- ---- the tables keep their lengths
 
-  pub read_length : (b : ℕ) (r : RegName) (u : List ℕ) → length (read_name own b r u) ≡ length u
-  read_length b name.None u = refl
-  read_length b (name.Reg q) u = length-set u (slot_of (length u) own q.0) (after_read b (entry_of own q.0 u))
+  pub read_length : (b : ℕ) (r : Option Register) (u : List ℕ) → length (read_name own b r u) ≡ length u
+  read_length b None u = refl
+  read_length b (Some q) u = length-set u (slot_of (length u) own q.0) (after_read b (entry_of own q.0 u))
 
   runs-length : (b : ℕ) (rs : List (List ℕ)) (u : List ℕ) → length (read_runs own b rs u) ≡ length u
   unfolding read_runs
@@ -105,9 +106,9 @@ module _ (own : List ℕ) where
   uses-length b k [] u = refl
   uses-length b k (l ∷ ls) u = uses-length b (k + 1) ls (use_line own b (k + 1) l u) ∙ use-length b (k + 1) l u
 
-  pub again-length : (m b : ℕ) (r : RegName) (d u : List ℕ) → length (again_name own m b r d u) ≡ length u
-  again-length m b name.None d u = refl
-  again-length m b (name.Reg q) d u = go (ltb (entry_of own q.0 d) m)
+  pub again-length : (m b : ℕ) (r : Option Register) (d u : List ℕ) → length (again_name own m b r d u) ≡ length u
+  again-length m b None d u = refl
+  again-length m b (Some q) d u = go (ltb (entry_of own q.0 d) m)
     where
       go : (t : Bool) → length (cond t u (with_entry own q.0 b u)) ≡ length u
       go true = refl
@@ -151,7 +152,7 @@ module _ (own : List ℕ) where
 
     -- one that begins with another byte names no register
     runs_other : (x : ℕ) (cur u : List ℕ) → eqb x 114 ≡ false → read_step (x ∷ cur) u ≡ u
-    runs_other x cur u e = ap (λ (r : RegName). read_name own b r u) (reg-first (x ∷ cur) (eqb-false x 114 e))
+    runs_other x cur u e = ap (λ (r : Option Register). read_name own b r u) (reg-first (x ∷ cur) (eqb-false x 114 e))
 
     runs_none : (u : List ℕ) → read_runs own b [] u ≡ u
     unfolding read_runs
@@ -191,11 +192,11 @@ module _ (own : List ℕ) where
   unfolding store_in
   store-decl a t e = go (ends_in 59 t) e
     where
-      by : (r : RegName) (n : ℕ) (x : List ℕ) → store_by r n x ≡ line.Decl → ⊥
-      by name.None n x e = let z : ◌≡◌ {A = ℕ} 0 1 = cc in absurd (omega arith)
-      by (name.Reg q) n x e = let z : ◌≡◌ {A = ℕ} 0 1 = cc in absurd (omega arith)
+      by : (r : Option Register) (n : ℕ) (x : List ℕ) → store_by r n x ≡ line.Decl → ⊥
+      by None n x e = let z : ◌≡◌ {A = ℕ} 0 1 = cc in absurd (omega arith)
+      by (Some q) n x e = let z : ◌≡◌ {A = ℕ} 0 1 = cc in absurd (omega arith)
 
-      split : (c : Bool) (r : RegName) (n : ℕ) (x : List ℕ) → cond c (store_by r n x) line.Other ≡ line.Decl → ⊥
+      split : (c : Bool) (r : Option Register) (n : ℕ) (x : List ℕ) → cond c (store_by r n x) line.Other ≡ line.Decl → ⊥
       split true r n x e = by r n x e
       split false r n x e = let z : ◌≡◌ {A = ℕ} 0 1 = cc in absurd (omega arith)
 
@@ -260,9 +261,9 @@ module _ (own : List ℕ) where
     same_low : ltb b b ≡ false
     same_low = le-ltb b b (omega arith)
 
-    name-over : (r : RegName) (u : List ℕ) → read_name own b r (set u i b) ≡ set (read_name own b r u) i b
-    name-over name.None u = refl
-    name-over (name.Reg q) u = entry-over (after_read b) b (rw same_low refl) u i q.0
+    name-over : (r : Option Register) (u : List ℕ) → read_name own b r (set u i b) ≡ set (read_name own b r u) i b
+    name-over None u = refl
+    name-over (Some q) u = entry-over (after_read b) b (rw same_low refl) u i q.0
 
     runs-over : (rs : List (List ℕ)) (u : List ℕ) → read_runs own b rs (set u i b) ≡ set (read_runs own b rs u) i b
     unfolding read_runs
@@ -284,9 +285,9 @@ module _ (own : List ℕ) where
     uses-over k (l ∷ ls) u = ap (use_lines own b (k + 1) ls) (use-over (k + 1) l u) ∙ uses-over (k + 1) ls (use_line own b (k + 1) l u)
 
   module _ (m b k : ℕ) (ls : List (List ℕ)) where
-    again-over : (r : RegName) (d u : List ℕ) → use_lines own b k ls (again_name own m b r d u) ≡ again_name own m b r d (use_lines own b k ls u)
-    again-over name.None d u = refl
-    again-over (name.Reg q) d u = go (ltb (entry_of own q.0 d) m)
+    again-over : (r : Option Register) (d u : List ℕ) → use_lines own b k ls (again_name own m b r d u) ≡ again_name own m b r d (use_lines own b k ls u)
+    again-over None d u = refl
+    again-over (Some q) d u = go (ltb (entry_of own q.0 d) m)
       where
         go : (t : Bool) → use_lines own b k ls (cond t u (with_entry own q.0 b u)) ≡ cond t (use_lines own b k ls u) (with_entry own q.0 b (use_lines own b k ls u))
         go true = refl

@@ -14,8 +14,9 @@ use Rattle.lines.proofs.LfLaws.{lines-unlines, lines-no_lf, lacks-append, lacks-
 use Rattle.lines.proofs.ActLaws.{act_no_lf, apply-no_lf, apply-length}
 use Rattle.text.specs.Trim.{from_of, trim_of}
 use Rattle.names.specs.Names.{reg_of, is_reg}
-use Rattle.names.specs.declared.RegName.{RegName}
-use Rattle.names.specs.declared.RegName.TheVariants as name
+use Rattle.std.specs.declared.option.Option.{Option}
+use Rattle.names.specs.declared.Register.{Register}
+use Rattle.std.specs.declared.option.Option.TheVariants.{Some, None}
 use Rattle.parse.specs.Parse.{let_word, body_of, all_regs, is_decl}
 use Rattle.weight.specs.Inner.Weight.{weight}
 use Rattle.weight.proofs.Weigh.{weight-line, nothing}
@@ -131,10 +132,10 @@ module _ (above : List (List ℕ)) (d : BlockLine) (below : List BlockLine) wher
       by true k f = omega (arith, f (mark k ms), mark-worth k ms)
       by false k f = omega (arith, f ms)
 
-      go : (r : RegName) → ((x : List Bool) → worth (mark_all ps above d below x) ≤ worth x + 4 * left_out (left_by above d below) ps) →
+      go : (r : Option Register) → ((x : List Bool) → worth (mark_all ps above d below x) ≤ worth x + 4 * left_out (left_by above d below) ps) →
           worth (mark_all ps above d below (mark_one r above d below ms)) ≤ worth ms + 4 * cond (fails (λ (v : ℕ). bound v above d below) r) (left_out (left_by above d below) ps) (suc (left_out (left_by above d below) ps))
-      go name.None f = omega (arith, f ms)
-      go (name.Reg q) f = by (bound q.0 above d below) (first_use q.0 below) f
+      go None f = omega (arith, f ms)
+      go (Some q) f = by (bound q.0 above d below) (first_use q.0 below) f
 
 module _ (H : ℕ) where
   -- a line and the marks that it makes
@@ -196,9 +197,9 @@ mark-at v b (suc n) (off r) h = off (mark-at v b n r h)
 mark-at v b (suc n) (on w e r) h = on w e (mark-at v b n r h)
 
 module _ (above : List (List ℕ)) (d : BlockLine) (sp : List BlockLine) where
-  mark-kept : (r : RegName) {ms : List Bool} → Marked ms sp → Marked (mark_one r above d (until_head sp) ms) sp
-  mark-kept name.None k = k
-  mark-kept (name.Reg q) {ms} k = go (bound q.0 above d (until_head sp)) (bound-store q.0 above d (until_head sp))
+  mark-kept : (r : Option Register) {ms : List Bool} → Marked ms sp → Marked (mark_one r above d (until_head sp) ms) sp
+  mark-kept None k = k
+  mark-kept (Some q) {ms} k = go (bound q.0 above d (until_head sp)) (bound-store q.0 above d (until_head sp))
     where
       go : (b : Bool) → (b ≡ true → store_at q.0 d.block (drop (first_use q.0 (until_head sp)) (until_head sp)) ≡ true) → Marked (cond b (mark (first_use q.0 (until_head sp)) ms) ms) sp
       go true f = mark-at q.0 d.block (first_use q.0 (until_head sp)) k (store-until q.0 d.block (first_use q.0 (until_head sp)) sp (f refl))
@@ -264,10 +265,10 @@ module _ (above : List (List ℕ)) (d : BlockLine) (below : List BlockLine) wher
       by true x ys c e f = f e
       by false x ys c e f = let z : ◌≡◌ {A = ℕ} 0 1 = cc in absurd (omega arith)
 
-      go : (r : RegName) → is_reg r && all_regs ps ≡ true → one (fails (λ (v : ℕ). bound v above d below) r) 1 (trim_of p) ++ kept (left_by above d below) 1 ps ≡ [] →
+      go : (r : Option Register) → is_reg r && all_regs ps ≡ true → one (fails (λ (v : ℕ). bound v above d below) r) 1 (trim_of p) ++ kept (left_by above d below) 1 ps ≡ [] →
           (all_regs ps ≡ true → kept (left_by above d below) 1 ps ≡ [] → all_bound ps above d below ≡ true) → bound_by r above d below && all_bound ps above d below ≡ true
-      go name.None g e f = no g
-      go (name.Reg q) g e f = by (bound q.0 above d below) (bare_name 1 (trim_of p)) (kept (left_by above d below) 1 ps) (all_bound ps above d below) e (f g)
+      go None g e f = no g
+      go (Some q) g e f = by (bound q.0 above d below) (bare_name 1 (trim_of p)) (kept (left_by above d below) 1 ps) (all_bound ps above d below) e (f g)
 
   gone-by : {m : Bool} {a : Act} → Turns d above below m a → a ≡ gone → (is_decl (trim_of d.line) ≡ true) × (all_bound (parts_of 44 (body_of (trim_of d.line))) above d below ≡ true)
   gone-by (prints e b) h =

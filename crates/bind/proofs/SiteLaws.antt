@@ -15,8 +15,8 @@ use Rattle.lines.proofs.OutLaws.{Writing, writing_start, writing-as}
 use Rattle.text.specs.Trim.{from_of, to_of, trim_of}
 use Rattle.names.specs.Names.{reg_of}
 use Rattle.names.specs.declared.Register.{Register}
-use Rattle.names.specs.declared.RegName.{RegName}
-use Rattle.names.specs.declared.RegName.TheVariants as name
+use Rattle.std.specs.declared.option.Option.{Option}
+use Rattle.std.specs.declared.option.Option.TheVariants.{Some, None}
 use Rattle.parse.specs.Parse.{let_word, body_of, is_decl}
 use Rattle.decls.specs.Inner.Print.{kept, decl_text}
 use Rattle.reading.specs.Uses.{line_stores, used_in}
@@ -82,9 +82,9 @@ module _ (f : ℕ → Bool) where
 -- ---- marks
 
 module _ (f : ℕ → Bool) (g : ℕ → ℕ) where
-  pub noted-length : (r : RegName) (m : List ℕ) → length (noted f g r m) ≡ length m
-  noted-length name.None m = refl
-  noted-length (name.Reg q) m = go (f q.0)
+  pub noted-length : (r : Option Register) (m : List ℕ) → length (noted f g r m) ≡ length m
+  noted-length None m = refl
+  noted-length (Some q) m = go (f q.0)
     where
       go : (b : Bool) → length (cond b (set m (g q.0) 1) m) ≡ length m
       go true = length-set m (g q.0) 1
@@ -113,9 +113,9 @@ module _ (f : ℕ → Bool) (g : ℕ → ℕ) where
       by true k y n = no (sym y)
       by false k y n = n y
 
-      go : (r : RegName) → passes f r || any_pass f ps ≡ false → (any_pass f ps ≡ false → noted_all f g ps m ≡ m) → noted_all f g ps (noted f g r m) ≡ m
-      go name.None y n = n y
-      go (name.Reg q) y n = by (f q.0) (g q.0) y n
+      go : (r : Option Register) → passes f r || any_pass f ps ≡ false → (any_pass f ps ≡ false → noted_all f g ps m ≡ m) → noted_all f g ps (noted f g r m) ≡ m
+      go None y n = n y
+      go (Some q) y n = by (f q.0) (g q.0) y n
 
   module _ (s : List ℕ) (i e : ℕ) (h : i ≤ length s) (q : e ≡ i + up_to 44 (drop i s)) (t : List ℕ) (z : t ≡ trim_of (part i e s)) (m m' : List ℕ) (y : m' ≡ noted f g (reg_of t) m) where
     noted_here : noted f g (reg_of (trim_of (part i e s))) m ≡ m'
@@ -131,9 +131,9 @@ module _ (f : ℕ → Bool) (g : ℕ → ℕ) where
         ap (λ (ps : List (List ℕ)). noted_all f g ps m) (parts-at-end 44 s i e h q l) ∙ noted-cons (part i e s) [] m
         ∙ noted-nil (noted f g (reg_of (trim_of (part i e s))) m) ∙ noted_here
 
-  module _ (r : RegName) (m : List ℕ) where
-    pub noted_other : r ≡ name.None → m ≡ noted f g r m
-    noted_other e = sym (ap (λ (n : RegName). noted f g n m) e)
+  module _ (r : Option Register) (m : List ℕ) where
+    pub noted_other : r ≡ None → m ≡ noted f g r m
+    noted_other e = sym (ap (λ (n : Option Register). noted f g n m) e)
 
 -- ---- what is written
 
@@ -227,14 +227,14 @@ mark-lt t s bs ss m v b p e h = omega (arith, bound-lt t s bs ss v (sym p ∙ e)
 
 -- ---- a mark
 
-module _ (f : ℕ → Bool) (g : ℕ → ℕ) (r : RegName) (m : List ℕ) (q : Register) (e : r ≡ name.Reg q) (b : Bool) (p : b ≡ f q.0) where
+module _ (f : ℕ → Bool) (g : ℕ → ℕ) (r : Option Register) (m : List ℕ) (q : Register) (e : r ≡ Some q) (b : Bool) (p : b ≡ f q.0) where
   -- a name that is not bound makes none
   pub noted-kept : b ≡ false → m ≡ noted f g r m
-  noted-kept h = sym (ap (λ (n : RegName). noted f g n m) e ∙ rw (← p, h))
+  noted-kept h = sym (ap (λ (n : Option Register). noted f g n m) e ∙ rw (← p, h))
 
   -- and one that is bound makes one, at k
   pub noted-new : b ≡ true → (k : ℕ) → k ≡ g q.0 → set m k 1 ≡ noted f g r m
-  noted-new h k w = ap (λ (n : ℕ). set m n 1) w ∙ sym (ap (λ (n : RegName). noted f g n m) e ∙ rw (← p, h))
+  noted-new h k w = ap (λ (n : ℕ). set m n 1) w ∙ sym (ap (λ (n : Option Register). noted f g n m) e ∙ rw (← p, h))
 
 pub row_at : (t : List ℕ) (s : Site) (v : ℕ) (b : List ℕ) → b ≡ part s.next s.end t → (f : ℕ) → f ≡ use_row v (lines_of b) → s.row + (f + 1) ≡ mark_row t s v
 row_at t s v b e f p = let z : f ≡ use_row v (below_of t s) = p ∙ ap (λ (x : List ℕ). use_row v (lines_of x)) e in omega arith

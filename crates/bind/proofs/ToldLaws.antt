@@ -11,8 +11,9 @@ use Rattle.lines.specs.Lf.{parts_of}
 use Rattle.lines.proofs.Tests.{no, and-false}
 use Rattle.text.specs.Trim.{trim_of}
 use Rattle.names.specs.Names.{reg_of, reg_is}
-use Rattle.names.specs.declared.RegName.{RegName}
-use Rattle.names.specs.declared.RegName.TheVariants as name
+use Rattle.std.specs.declared.option.Option.{Option}
+use Rattle.names.specs.declared.Register.{Register}
+use Rattle.std.specs.declared.option.Option.TheVariants.{Some, None}
 use Rattle.parse.specs.Parse.{body_of, is_decl, parse_of, text_of}
 use Rattle.parse.specs.declared.Line.{Line}
 use Rattle.parse.specs.declared.Line.TheVariants as line
@@ -38,9 +39,9 @@ set-by own f k v u h = go (eqb k v) refl
     go true e = ap (λ (n : ℕ). entry_of own v (with_entry own n (f (entry_of own n u)) u)) (eqb-true k v e) ∙ entry-same own u v (f (entry_of own v u)) h
     go false e = entry_other own u k (f (entry_of own k u)) v h (eqb-false k v e)
 
-read_at : (own : List ℕ) (b v : ℕ) (r : RegName) (u : List ℕ) → Placed own v u → entry_of own v (read_name own b r u) ≡ cond (reg_is v r) (after_read b (entry_of own v u)) (entry_of own v u)
-read_at own b v name.None u h = refl
-read_at own b v (name.Reg q) u h = set-by own (λ (x : ℕ). after_read b x) q.0 v u h
+read_at : (own : List ℕ) (b v : ℕ) (r : Option Register) (u : List ℕ) → Placed own v u → entry_of own v (read_name own b r u) ≡ cond (reg_is v r) (after_read b (entry_of own v u)) (entry_of own v u)
+read_at own b v None u h = refl
+read_at own b v (Some q) u h = set-by own (λ (x : ℕ). after_read b x) q.0 v u h
 
 read_twice : (b x : ℕ) → after_read b (after_read b x) ≡ after_read b x
 read_twice b x = go (ltb x b) refl
@@ -203,17 +204,17 @@ use-low v b k (l ∷ ls) x g h = go (line_stores v l) (ltb 0 (line_reads v l)) r
 
 -- ---- declarations
 
-seen_at : (own : List ℕ) (m v : ℕ) (r : RegName) (d : List ℕ) → Placed own v d → ltb (entry_of own v (mark_name own m r d)) m ≡ cond (reg_is v r) false (ltb (entry_of own v d) m)
-seen_at own m v name.None d h = refl
-seen_at own m v (name.Reg q) d h = ap (λ (x : ℕ). ltb x m) (set-by own (λ (x : ℕ). m) q.0 v d h) ∙ go (eqb q.0 v)
+seen_at : (own : List ℕ) (m v : ℕ) (r : Option Register) (d : List ℕ) → Placed own v d → ltb (entry_of own v (mark_name own m r d)) m ≡ cond (reg_is v r) false (ltb (entry_of own v d) m)
+seen_at own m v None d h = refl
+seen_at own m v (Some q) d h = ap (λ (x : ℕ). ltb x m) (set-by own (λ (x : ℕ). m) q.0 v d h) ∙ go (eqb q.0 v)
   where
     go : (t : Bool) → ltb (cond t m (entry_of own v d)) m ≡ cond t false (ltb (entry_of own v d) m)
     go true = let z : m ≤ m = omega arith in le-ltb m m z
     go false = refl
 
-again-at : (own : List ℕ) (m b v : ℕ) (r : RegName) (d u : List ℕ) → Placed own v u → entry_of own v (again_name own m b r d u) ≡ cond (reg_is v r && not (ltb (entry_of own v d) m)) b (entry_of own v u)
-again-at own m b v name.None d u h = refl
-again-at own m b v (name.Reg q) d u h = go (eqb q.0 v) refl
+again-at : (own : List ℕ) (m b v : ℕ) (r : Option Register) (d u : List ℕ) → Placed own v u → entry_of own v (again_name own m b r d u) ≡ cond (reg_is v r && not (ltb (entry_of own v d) m)) b (entry_of own v u)
+again-at own m b v None d u h = refl
+again-at own m b v (Some q) d u h = go (eqb q.0 v) refl
   where
     other : (t : Bool) → (q.0 ≡ v → ⊥) → entry_of own v (cond t u (with_entry own q.0 b u)) ≡ entry_of own v u
     other true n = refl
@@ -564,9 +565,9 @@ set-most n zero (suc v) x (y ∷ d) g h = h
 set-most n (suc k) zero x (y ∷ d) g h = h
 set-most n (suc k) (suc v) x (y ∷ d) g h = set-most n k v x d g h
 
-read-most : (own : List ℕ) (b n : ℕ) (r : RegName) (u : List ℕ) → b ≤ n → AtMost n u → AtMost n (read_name own b r u)
-read-most own b n name.None u g h = h
-read-most own b n (name.Reg q) u g h = λ i. set-most n (slot_of (length u) own q.0) i (after_read b (entry_of own q.0 u)) u (cond-le (ltb (entry_of own q.0 u) b) b (entry_of own q.0 u) n g (h (slot_of (length u) own q.0))) (h i)
+read-most : (own : List ℕ) (b n : ℕ) (r : Option Register) (u : List ℕ) → b ≤ n → AtMost n u → AtMost n (read_name own b r u)
+read-most own b n None u g h = h
+read-most own b n (Some q) u g h = λ i. set-most n (slot_of (length u) own q.0) i (after_read b (entry_of own q.0 u)) u (cond-le (ltb (entry_of own q.0 u) b) b (entry_of own q.0 u) n g (h (slot_of (length u) own q.0))) (h i)
 
 runs-most : (own : List ℕ) (b n : ℕ) (rs : List (List ℕ)) (u : List ℕ) → b ≤ n → AtMost n u → AtMost n (read_runs own b rs u)
 unfolding read_runs
@@ -585,9 +586,9 @@ uses-most own b k (l ∷ ls) u g h =
     let f = uses-most own b (k + 1) ls (use_line own b (k + 1) l u) (omega arith) (runs-most own b (k + 1) (runs (text_of l (parse_of l))) (store_line own b (k + 1) (parse_of l) u) g (store-most own b (k + 1) (k + 1) (parse_of l) u g (omega arith) (λ v. let z = h v in omega arith))) in
     λ v. let z = f v in omega arith
 
-again-most : (own : List ℕ) (m b n : ℕ) (r : RegName) (d u : List ℕ) → b ≤ n → AtMost n u → AtMost n (again_name own m b r d u)
-again-most own m b n name.None d u g h = h
-again-most own m b n (name.Reg q) d u g h = go (ltb (entry_of own q.0 d) m)
+again-most : (own : List ℕ) (m b n : ℕ) (r : Option Register) (d u : List ℕ) → b ≤ n → AtMost n u → AtMost n (again_name own m b r d u)
+again-most own m b n None d u g h = h
+again-most own m b n (Some q) d u g h = go (ltb (entry_of own q.0 d) m)
   where
     go : (t : Bool) → AtMost n (cond t u (with_entry own q.0 b u))
     go true = h
@@ -603,9 +604,9 @@ unfolding again_lines
 agains-most own m b n [] d u g h = h
 agains-most own m b n (l ∷ ls) d u g h = agains-most own m b n ls (seen_pieces own m (pieces_of l) d) (again_pieces own m b (pieces_of l) d u) g (pieces-most own m b n (pieces_of l) d u g h)
 
-mark-most : (own : List ℕ) (m n : ℕ) (r : RegName) (d : List ℕ) → m ≤ n → AtMost n d → AtMost n (mark_name own m r d)
-mark-most own m n name.None d g h = h
-mark-most own m n (name.Reg q) d g h = λ i. set-most n (slot_of (length d) own q.0) i m d g (h i)
+mark-most : (own : List ℕ) (m n : ℕ) (r : Option Register) (d : List ℕ) → m ≤ n → AtMost n d → AtMost n (mark_name own m r d)
+mark-most own m n None d g h = h
+mark-most own m n (Some q) d g h = λ i. set-most n (slot_of (length d) own q.0) i m d g (h i)
 
 marks-most : (own : List ℕ) (m n : ℕ) (ps : List (List ℕ)) (d : List ℕ) → m ≤ n → AtMost n d → AtMost n (seen_pieces own m ps d)
 unfolding seen_pieces

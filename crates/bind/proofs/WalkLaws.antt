@@ -17,8 +17,9 @@ use Rattle.lines.proofs.OutLaws.{Writing, writing_start, writing-as, writing-put
 use Rattle.lines.proofs.Tests.{no, or-true}
 use Rattle.text.specs.Trim.{from_of, trim_of}
 use Rattle.names.specs.Names.{reg_of, reg_text}
-use Rattle.names.specs.declared.RegName.{RegName}
-use Rattle.names.specs.declared.RegName.TheVariants as name
+use Rattle.std.specs.declared.option.Option.{Option}
+use Rattle.names.specs.declared.Register.{Register}
+use Rattle.std.specs.declared.option.Option.TheVariants.{Some, None}
 use Rattle.parse.specs.Parse.{body_of, is_decl}
 use Rattle.place.specs.Region.{is_header, until_header, region}
 use Rattle.place.specs.Inner.Region.{up_header, region_len}
@@ -335,9 +336,9 @@ module _ (above : List (List ℕ)) (d : BlockLine) (below : List BlockLine) wher
       by true c k h f = no (sym h)
       by false c k h f = f h
 
-      go : (r : RegName) → bound_by r above d below || any_bound ps above d below ≡ false → ((x : List Bool) → any_bound ps above d below ≡ false → mark_all ps above d below x ≡ x) → mark_all ps above d below (mark_one r above d below ms) ≡ ms
-      go name.None h f = f ms h
-      go (name.Reg q) h f = by (bound q.0 above d below) (any_bound ps above d below) (first_use q.0 below) h (f ms)
+      go : (r : Option Register) → bound_by r above d below || any_bound ps above d below ≡ false → ((x : List Bool) → any_bound ps above d below ≡ false → mark_all ps above d below x ≡ x) → mark_all ps above d below (mark_one r above d below ms) ≡ ms
+      go None h f = f ms h
+      go (Some q) h f = by (bound q.0 above d below) (any_bound ps above d below) (first_use q.0 below) h (f ms)
 
 -- a line that gives up no name
 other-as : (l : List ℕ) (b : Bool) → other_text l (cond b 1 0) ≡ unlines (act (cond b (become (promoted l)) keep) l)
@@ -353,9 +354,9 @@ module _ (f : ℕ → Bool) (above : List (List ℕ)) (d : BlockLine) (below : L
   any-is [] = refl
   any-is (p ∷ ps) = go (reg_of (trim_of p)) (any-is ps)
     where
-      go : (r : RegName) → any_pass f ps ≡ any_bound ps above d below → passes f r || any_pass f ps ≡ bound_by r above d below || any_bound ps above d below
-      go name.None e = e
-      go (name.Reg q) e = rw (w q.0, e)
+      go : (r : Option Register) → any_pass f ps ≡ any_bound ps above d below → passes f r || any_pass f ps ≡ bound_by r above d below || any_bound ps above d below
+      go None e = e
+      go (Some q) e = rw (w q.0, e)
 
   pub kept-is : (ps : List (List ℕ)) → kept (left f) 1 ps ≡ unbound ps above d below
   unfolding kept unbound
@@ -366,9 +367,9 @@ module _ (f : ℕ → Bool) (above : List (List ℕ)) (d : BlockLine) (below : L
       by true x y e = refl
       by false x y e = ap (λ (z : List ℕ). z ∷ []) e
 
-      go : (r : RegName) → reg_of (trim_of p) ≡ r → kept (left f) 1 ps ≡ unbound ps above d below → one (fails f r) 1 (trim_of p) ++ kept (left f) 1 ps ≡ unbound_one r above d below ++ unbound ps above d below
-      go name.None h e = e
-      go (name.Reg q) h e = rw (w q.0, e) (ap (λ (x : List (List ℕ)). x ++ unbound ps above d below) (by (bound q.0 above d below) (bare_name 1 (trim_of p)) (reg_text q.0) (sym (reg-bare (trim_of p) q h))))
+      go : (r : Option Register) → reg_of (trim_of p) ≡ r → kept (left f) 1 ps ≡ unbound ps above d below → one (fails f r) 1 (trim_of p) ++ kept (left f) 1 ps ≡ unbound_one r above d below ++ unbound ps above d below
+      go None h e = e
+      go (Some q) h e = rw (w q.0, e) (ap (λ (x : List (List ℕ)). x ++ unbound ps above d below) (by (bound q.0 above d below) (bare_name 1 (trim_of p)) (reg_text q.0) (sym (reg-bare (trim_of p) q h))))
 
   -- what is written of a line
   text-as : (m : Bool) → site_text f d.line (cond m 1 0) ≡ unlines (act (bind_act d above below m) d.line)
@@ -394,9 +395,9 @@ module _ (f : ℕ → Bool) (above : List (List ℕ)) (d : BlockLine) (below : L
 
   -- the marks of the lines to come as entries, n of them
   module _ (n : ℕ) (u : (v : ℕ) → bound v above d below ≡ true → first_use v below < n) (q rest : List ℕ) (g : ℕ → ℕ) (z : (v : ℕ) → g v ≡ length q + first_use v below) where
-    note-one : (r : RegName) (ms : List Bool) → noted f g r (q ++ (pad_to n ms ++ rest)) ≡ q ++ (pad_to n (mark_one r above d below ms) ++ rest)
-    note-one name.None ms = refl
-    note-one (name.Reg x) ms = rw (w x.0) (go (bound x.0 above d below) (u x.0))
+    note-one : (r : Option Register) (ms : List Bool) → noted f g r (q ++ (pad_to n ms ++ rest)) ≡ q ++ (pad_to n (mark_one r above d below ms) ++ rest)
+    note-one None ms = refl
+    note-one (Some x) ms = rw (w x.0) (go (bound x.0 above d below) (u x.0))
       where
         go : (b : Bool) → (b ≡ true → first_use x.0 below < n) →
             cond b (set (q ++ (pad_to n ms ++ rest)) (g x.0) 1) (q ++ (pad_to n ms ++ rest)) ≡ q ++ (pad_to n (cond b (mark (first_use x.0 below) ms) ms) ++ rest)

@@ -6,8 +6,9 @@ use Rattle.lines.specs.Lf.{parts_of}
 use Rattle.lines.specs.Acts.{Act, keep, become, apply}
 use Rattle.text.specs.Trim.{from_of, trim_start, trim_of}
 use Rattle.names.specs.Names.{reg_of, reg_is, reg_text}
-use Rattle.names.specs.declared.RegName.{RegName}
-use Rattle.names.specs.declared.RegName.TheVariants as name
+use Rattle.std.specs.declared.option.Option.{Option}
+use Rattle.names.specs.declared.Register.{Register}
+use Rattle.std.specs.declared.option.Option.TheVariants.{Some, None}
 use Rattle.parse.specs.Parse.{let_word, body_of, is_decl}
 use Rattle.place.specs.Region.{is_header}
 use Rattle.place.specs.Blocks.{blocks}
@@ -81,9 +82,9 @@ bound v above d below =
     && (not (used_in v above) && store_at v d.block (drop (first_use v below) below)))
 
 -- a test of the register that a piece names
-abbrev pub bound_by : RegName → List (List ℕ) → BlockLine → List BlockLine → Bool
-bound_by name.None above d below = false
-bound_by (name.Reg q) above d below = bound q.0 above d below
+abbrev pub bound_by : Option Register → List (List ℕ) → BlockLine → List BlockLine → Bool
+bound_by None above d below = false
+bound_by (Some q) above d below = bound q.0 above d below
 
 -- some piece is bound
 unfoldable pub any_bound : List (List ℕ) → List (List ℕ) → BlockLine → List BlockLine → Bool
@@ -91,9 +92,9 @@ any_bound [] above d below = false
 any_bound (p ∷ ps) above d below = bound_by (reg_of (trim_of p)) above d below || any_bound ps above d below
 
 -- the names that stay, as they are printed
-abbrev pub unbound_one : RegName → List (List ℕ) → BlockLine → List BlockLine → List (List ℕ)
-unbound_one name.None above d below = []
-unbound_one (name.Reg q) above d below = cond (bound q.0 above d below) [] (reg_text q.0 ∷ [])
+abbrev pub unbound_one : Option Register → List (List ℕ) → BlockLine → List BlockLine → List (List ℕ)
+unbound_one None above d below = []
+unbound_one (Some q) above d below = cond (bound q.0 above d below) [] (reg_text q.0 ∷ [])
 
 unfoldable pub unbound : List (List ℕ) → List (List ℕ) → BlockLine → List BlockLine → List (List ℕ)
 unbound [] above d below = []
@@ -107,9 +108,9 @@ mark zero (m ∷ ms) = true ∷ ms
 mark (suc n) [] = false ∷ mark n []
 mark (suc n) (m ∷ ms) = m ∷ mark n ms
 
-abbrev pub mark_one : RegName → List (List ℕ) → BlockLine → List BlockLine → List Bool → List Bool
-mark_one name.None above d below ms = ms
-mark_one (name.Reg q) above d below ms = cond (bound q.0 above d below) (mark (first_use q.0 below) ms) ms
+abbrev pub mark_one : Option Register → List (List ℕ) → BlockLine → List BlockLine → List Bool → List Bool
+mark_one None above d below ms = ms
+mark_one (Some q) above d below ms = cond (bound q.0 above d below) (mark (first_use q.0 below) ms) ms
 
 unfoldable pub mark_all : List (List ℕ) → List (List ℕ) → BlockLine → List BlockLine → List Bool → List Bool
 unfolding mark

@@ -42,8 +42,8 @@ fn read_name(t: &[u8], own: &[usize], b: usize, first: &mut [usize])
         return;
     }
     match names::reg_name(t) {
-        names::RegName::Reg(q) => read_reg(q, own, b, first),
-        names::RegName::None => {}
+        Some(q) => read_reg(q, own, b, first),
+        None => {}
     }
 }
 
@@ -114,8 +114,8 @@ fn see_name(t: &[u8], own: &[usize], m: usize, b: usize, seen: &mut [usize], fir
     ensures again { first.new ≡ again_name own.now m b (reg_of t.now) seen.old first.old }
 {
     match names::reg_name(t) {
-        names::RegName::Reg(q) => see_reg(q, own, m, b, seen, first),
-        names::RegName::None => {}
+        Some(q) => see_reg(q, own, m, b, seen, first),
+        None => {}
     }
 }
 

@@ -266,8 +266,8 @@ fn is_left(
     ensures { result ≡ left (bound_at text.now s blocks.now starts.now) t.now }
 {
     match names::reg_name(t) {
-        names::RegName::Reg(q) => !told(text, own, s, blocks, starts, seen, first, q),
-        names::RegName::None => false,
+        Some(q) => !told(text, own, s, blocks, starts, seen, first, q),
+        None => false,
     }
 }
 
@@ -288,7 +288,7 @@ fn mark_name(
     ensures memory { marks.new ≡ noted (bound_at text.now s blocks.now starts.now) (mark_row text.now s) (reg_of t.now) marks.old }
 {
     match names::reg_name(t) {
-        names::RegName::Reg(q) => {
+        Some(q) => {
             if !told(text, own, s, blocks, starts, seen, first, q) {
                 return false;
             }
@@ -296,7 +296,7 @@ fn mark_name(
             marks[k] = 1;
             true
         }
-        names::RegName::None => false,
+        None => false,
     }
 }
 

@@ -20,8 +20,8 @@ use Rattle.parse.specs.declared.Line.TheVariants as line
 use Rattle.parse.specs.Parse.{parse_of}
 use Rattle.place.specs.Region.{is_header}
 use Rattle.reading.specs.Reading.{plain}
-use Rattle.calls.specs.declared.Made.{Made}
-use Rattle.calls.specs.declared.Made.TheVariants as made
+use Rattle.std.specs.declared.option.Option.{Option}
+use Rattle.std.specs.declared.option.Option.TheVariants.{Some, None}
 use Rattle.calls.specs.Leaves.{Parsed, store, other}
 use Rattle.calls.specs.LeavesOf.{parsed_by, parsed_of}
 use Rattle.calls.specs.Calls.{Row, Walked, Step, end, skip, absorb, row_lines, climb, made, has, acts_up, read_later, storeStep, stepAt, walk}
@@ -44,22 +44,22 @@ pub record PutLine (s : Step) (d' : List ℕ) (n : ℕ) : Type 0 where
   pub step : s ≡ absorb next
   pub wrote : Wrote before 0 next d' n
 
-never-line : {A : Type 0} {n : ℕ} → made.Nothing ≡ made.Line n → A
+never-line : {A : Type 0} {n : ℕ} → None ≡ Some n → A
 never-line h = let z : ◌≡◌ {A = ℕ} 0 1 = cc in absurd (omega arith)
 
-never-nothing : {A : Type 0} {n : ℕ} → made.Line n ≡ made.Nothing → A
+never-nothing : {A : Type 0} {n : ℕ} → Some n ≡ None → A
 never-nothing h = let z : ◌≡◌ {A = ℕ} 0 1 = cc in absurd (omega arith)
 
-pub put-line : {d d' : List ℕ} {s : Step} {r : Made} {n : ℕ} → PutAs d s d' r → r ≡ made.Line n → PutLine s d' n
+pub put-line : {d d' : List ℕ} {s : Step} {r : Option ℕ} {n : ℕ} → PutAs d s d' r → r ≡ Some n → PutLine s d' n
 put-line (ends l) q = never-line q
 put-line {d' = d'} {n = n} (puts {next = next} {d₁ = d₁} {n = k} l w) q = let z : k ≡ n = cc in record { next = next; before = d₁; step = refl; wrote = subst (Wrote d₁ 0 next d') z w }
 
-pub put-end : {d d' : List ℕ} {s : Step} {r : Made} → PutAs d s d' r → r ≡ made.Nothing → s ≡ end
+pub put-end : {d d' : List ℕ} {s : Step} {r : Option ℕ} → PutAs d s d' r → r ≡ None → s ≡ end
 put-end (ends l) q = refl
 put-end (puts l w) q = never-nothing q
 
 -- the buffer keeps its length
-pub put-out : {d d' : List ℕ} {s : Step} {r : Made} → PutAs d s d' r → length d' ≡ length d
+pub put-out : {d d' : List ℕ} {s : Step} {r : Option ℕ} → PutAs d s d' r → length d' ≡ length d
 put-out (ends l) = l
 put-out (puts l w) = wrote-length w ∙ l
 
@@ -530,12 +530,12 @@ module _ {t : List ℕ} {n i f : ℕ} {bs fs owner₀ stack : List ℕ} {m : ℕ
             pub absorb-room : length cc₀ + length val + 2 ≤ length next
             absorb-room = let a = (stack-line b z).whole in omega (arith, value-less, v.at.room, v.ground.m-next, v.same_next, ap length cur-is, v.at.sized)
 
-            module _ {next' : List ℕ} {r : Made} (o : PutAs next step-code next' r) where
+            module _ {next' : List ℕ} {r : Option ℕ} (o : PutAs next step-code next' r) where
               -- it could not be put in
-              pub none_end : r ≡ made.Nothing → Peaked t bs fs n owner₀ owner stack cur h c m
+              pub none_end : r ≡ None → Peaked t bs fs n owner₀ owner stack cur h c m
               none_end x = step_end (step_is ∙ put-end o x)
 
-              module _ {size : ℕ} (x : r ≡ made.Line size) (new : List ℕ) (e₄ : new ≡ part 0 size next') where
+              module _ {size : ℕ} (x : r ≡ Some size) (new : List ℕ) (e₄ : new ≡ part 0 size next') where
                 out : PutLine step-code next' size
                 out = put-line o x
 

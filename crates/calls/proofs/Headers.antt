@@ -13,8 +13,9 @@ use Rattle.text.specs.White.{is_white}
 use Rattle.text.specs.Utf8Form.{seq_len}
 use Rattle.text.specs.Trim.{point, white_char, white_head, lead, from_of, to_of, trim_of}
 use Rattle.names.specs.Names.{reg_of}
-use Rattle.names.specs.declared.RegName.{RegName}
-use Rattle.names.specs.declared.RegName.TheVariants as name
+use Rattle.std.specs.declared.option.Option.{Option}
+use Rattle.names.specs.declared.Register.{Register}
+use Rattle.std.specs.declared.option.Option.TheVariants.{Some, None}
 use Rattle.parse.specs.declared.Line.{Line}
 use Rattle.parse.specs.declared.Line.TheVariants as line
 use Rattle.parse.specs.Parse.{is_decl, store_by, split_store, store_in, parse_of}
@@ -87,7 +88,7 @@ module _ (x : ℕ) (h : solid x ≡ true) where
   led-trim s e = rw (from-none s e) (led-take x (to_of s) s e)
 
   -- it names no register
-  led-reg : (s : List ℕ) → led x s ≡ true → reg_of s ≡ name.None
+  led-reg : (s : List ℕ) → led x s ≡ true → reg_of s ≡ None
   unfolding reg_of prefixed led
   led-reg [] e = refl
   led-reg (y ∷ ys) e = rw (ap (λ (z : ℕ). eqb 114 z) (eqb-true y x e) ∙ no-reg)
@@ -97,7 +98,7 @@ module _ (x : ℕ) (h : solid x ≡ true) where
       go (ltb (up_to 61 u) (length u) && not (eqb (get_or u (up_to 61 u + 1) 0) 61)) (reg_of (trim_of (take (up_to 61 u) u)))
       (led-reg (trim_of (take (up_to 61 u) u)) (led-trim (take (up_to 61 u) u) (led-take x (up_to 61 u) u e)))
     where
-      go : (b : Bool) (r : RegName) → r ≡ name.None → cond b (store_by r (a + (up_to 61 u + 1)) (drop (up_to 61 u + 1) u)) line.Other ≡ line.Other
+      go : (b : Bool) (r : Option Register) → r ≡ None → cond b (store_by r (a + (up_to 61 u + 1)) (drop (up_to 61 u + 1) u)) line.Other ≡ line.Other
       go true r q = rw q
       go false r q = refl
 

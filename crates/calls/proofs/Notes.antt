@@ -11,8 +11,9 @@ use lib.Seq.{drop-drop, get_or-set_same, get_or-set_other}
 use Rattle.lines.specs.Lf.{part, lines_of}
 use Rattle.lines.proofs.Tests.{and-false, and_left, and_right}
 use Rattle.names.specs.Names.{reg_of, reg_is}
-use Rattle.names.specs.declared.RegName.{RegName}
-use Rattle.names.specs.declared.RegName.TheVariants as name
+use Rattle.std.specs.declared.option.Option.{Option}
+use Rattle.names.specs.declared.Register.{Register}
+use Rattle.std.specs.declared.option.Option.TheVariants.{Some, None}
 use Rattle.parse.specs.Parse.{parse_of, text_of}
 use Rattle.parse.specs.declared.Store.{Store}
 use Rattle.parse.specs.declared.Line.{Line}
@@ -48,9 +49,9 @@ seen-high c h e k = go (ltb h e) refl
     go true q = rw q
     go false q = rw (lt-ltb h c k)
 
-name-length : (own : List ℕ) (c h : ℕ) (r : RegName) (d : List ℕ) → length (read_name own c h r d) ≡ length d
-name-length own c h name.None d = refl
-name-length own c h (name.Reg q) d = go (ltb h (entry_of own q.0 d))
+name-length : (own : List ℕ) (c h : ℕ) (r : Option Register) (d : List ℕ) → length (read_name own c h r d) ≡ length d
+name-length own c h None d = refl
+name-length own c h (Some q) d = go (ltb h (entry_of own q.0 d))
   where
     go : (b : Bool) → length (cond b d (with_entry own q.0 c d)) ≡ length d
     go true = refl
@@ -76,9 +77,9 @@ note-length own (line.Store s) k c h near stores d = go (has_places own s.reg.0 
     go false = refl
 note-length own line.Other k c h near stores d = refl
 
-name-entry : (own : List ℕ) (c h v : ℕ) (r : RegName) (d : List ℕ) → Placed own v d → entry_of own v (read_name own c h r d) ≡ cond (reg_is v r) (seen_by c h (entry_of own v d)) (entry_of own v d)
-name-entry own c h v name.None d k = refl
-name-entry own c h v (name.Reg q) d k = go (eqb q.0 v) refl
+name-entry : (own : List ℕ) (c h v : ℕ) (r : Option Register) (d : List ℕ) → Placed own v d → entry_of own v (read_name own c h r d) ≡ cond (reg_is v r) (seen_by c h (entry_of own v d)) (entry_of own v d)
+name-entry own c h v None d k = refl
+name-entry own c h v (Some q) d k = go (eqb q.0 v) refl
   where
     other : (b : Bool) → (q.0 ≡ v → ⊥) → entry_of own v (cond b d (with_entry own q.0 c d)) ≡ entry_of own v d
     other true n = refl
@@ -369,7 +370,7 @@ module _ (own : List ℕ) (c h : ℕ) where
 
   -- one that begins with another byte names no register
   reads_other : (x : ℕ) (cur d : List ℕ) → eqb x 114 ≡ false → read_step (x ∷ cur) d ≡ d
-  reads_other x cur d e = ap (λ (r : RegName). read_name own c h r d) (reg-first (x ∷ cur) (eqb-false x 114 e))
+  reads_other x cur d e = ap (λ (r : Option Register). read_name own c h r d) (reg-first (x ∷ cur) (eqb-false x 114 e))
 
   reads-empty : (d : List ℕ) → read_runs own c h [] d ≡ d
   unfolding read_runs

@@ -13,16 +13,15 @@ use Rattle.lines.proofs.Tests.{no, and_left, and_right}
 use Rattle.text.specs.declared.Span.{Span}
 use Rattle.text.specs.Trim.{from_of, to_end, trim_of}
 use Rattle.names.specs.Names.{reg_text, reg_of}
-use Rattle.names.specs.declared.RegName.{RegName}
-use Rattle.names.specs.declared.RegName.TheVariants as name
+use Rattle.std.specs.declared.option.Option.{Option}
+use Rattle.names.specs.declared.Register.{Register}
+use Rattle.std.specs.declared.option.Option.TheVariants.{Some, None}
 use Rattle.names.proofs.Decimal.{decimal-long}
 use Rattle.parse.specs.declared.Store.{Store}
 use Rattle.parse.specs.declared.Line.{Line}
 use Rattle.parse.specs.declared.Line.TheVariants as line
 use Rattle.parse.specs.Parse.{is_decl, store_by, split_store, store_in, parse_of}
 use Rattle.parse.proofs.ParseLaws.{parse-place}
-use Rattle.words.specs.declared.Hit.{Hit}
-use Rattle.words.specs.declared.Hit.TheVariants as hit
 use Rattle.words.specs.Hits.{reg_hit, glue_left, glue_right, glued, replaced_at, replace_by, replace_reg}
 use Rattle.words.proofs.Places.{around, hit-stands, replace-hit, replace-lacks}
 use Rattle.weight.specs.Inner.Weight.{spaced, extra, weight}
@@ -44,9 +43,9 @@ never_other h = let z : ◌≡◌ {A = ℕ} 0 1 = cc in absurd (omega arith)
 never-decl : {A : Type 0} {s : Store} → line.Decl ≡ line.Store s → A
 never-decl h = let z : ◌≡◌ {A = ℕ} 0 1 = cc in absurd (omega arith)
 
-after-by : (r : RegName) (b : ℕ) (rhs : List ℕ) (s : Store) → store_by r b rhs ≡ line.Store s → b ≤ s.from
-after-by name.None b rhs s h = never_other h
-after-by (name.Reg q) b rhs s h =
+after-by : (r : Option Register) (b : ℕ) (rhs : List ℕ) (s : Store) → store_by r b rhs ≡ line.Store s → b ≤ s.from
+after-by None b rhs s h = never_other h
+after-by (Some q) b rhs s h =
     let e : ◌≡◌ {A = Store} s (record { reg = q; from = b + from_of rhs; to = b + to_end rhs }) = cc in
     let f : s.from ≡ b + from_of rhs = ap (λ (x : Store). x.from) e in
     omega arith
@@ -102,16 +101,16 @@ valued t v value h = go (parse_of t) refl h
 pub record Put (cur : List ℕ) (v : ℕ) (value next : List ℕ) : Type 0 where
   pub after : Bool
   pub span : Span
-  pub found : reg_hit v cur ≡ hit.One span
+  pub found : reg_hit v cur ≡ Some span
   pub is : next ≡ replaced_at span.from span.to cur (paren_if_needed value after)
 
 put-by : (cur : List ℕ) (v : ℕ) (value next : List ℕ) (b : Bool) → or_end (replace_reg v cur (paren_if_needed value b)) ≡ absorb next → Put cur v value next
 unfolding replace_reg or_end code
 put-by cur v value next b q = go (reg_hit v cur) refl q
   where
-    go : (h : Hit) → reg_hit v cur ≡ h → or_end (replace_by h cur (paren_if_needed value b)) ≡ absorb next → Put cur v value next
-    go hit.Not e k = apart end next (λ z. omega arith) k
-    go (hit.One w) e k =
+    go : (h : Option Span) → reg_hit v cur ≡ h → or_end (replace_by h cur (paren_if_needed value b)) ≡ absorb next → Put cur v value next
+    go None e k = apart end next (λ z. omega arith) k
+    go (Some w) e k =
         let a : ◌≡◌ {A = List ℕ} (replaced_at w.from w.to cur (paren_if_needed value b)) next = cc in
         record { after = b; span = w; found = e; is = sym a }
 

@@ -29,7 +29,7 @@ use Rattle.lexical.specs.Inner.Lex.{tail_of}
 use Rattle.lexical.specs.Inner.Plain.{plain_len}
 use Rattle.lexical.proofs.LexLaws.{lex-start, lex-end}
 use Rattle.lexical.proofs.PlainLaws.{lex-plain}
-use Rattle.words.specs.declared.Hit.TheVariants as hit
+use Rattle.std.specs.declared.option.Option.TheVariants.{Some, None}
 use Rattle.words.specs.Hits.{reg_hit, after_new, as_target, glue_left, glue_right, glued, replaced_at, replace_reg}
 use Rattle.names.specs.Names.{is_digit}
 use Rattle.words.proofs.Glue.{glued-bare, replaced-is, replaced-length}
@@ -40,8 +40,7 @@ use Rattle.calls.specs.Leaves.{newed, operand}
 use Rattle.calls.specs.LeavesOf.{parsed_by, parsed_of, context_of, is_call, is_control_line, leaves_of}
 use Rattle.calls.specs.Calls.{Step, end, absorb, or_end, put_by, stores_in, read_later}
 use Rattle.calls.specs.Inner.Steps.{breaks_down, wrapped_call, absorb_step, PutAs, ends, puts}
-use Rattle.calls.specs.declared.Made.{Made}
-use Rattle.calls.specs.declared.Made.TheVariants as made
+use Rattle.std.specs.declared.option.Option.{Option}
 
 -- ---- two tests, the first asked first
 
@@ -212,11 +211,11 @@ module _ (from to : ℕ) (l v before after : List ℕ) (p : before ≡ part 0 fr
   wrapped-long = omega (arith, replaced-length from to l (wrapped_call v) before after p q, ap length wrapped-bare, length-append (40 ∷ v) (41 ∷ []))
 
 module _ (R : Reading) (cur : List ℕ) (v : ℕ) (value : List ℕ) where
-  pub put-none : reg_hit v cur ≡ hit.Not → put_by (leaves_of R) (context_of cur v) cur v value ≡ end
+  pub put-none : reg_hit v cur ≡ None → put_by (leaves_of R) (context_of cur v) cur v value ≡ end
   unfolding context_of put_by
   put-none e = rw e
 
-  module _ (w : Span) (e : reg_hit v cur ≡ hit.One w) where
+  module _ (w : Span) (e : reg_hit v cur ≡ Some w) where
     pub put-target : as_target w.to cur ≡ true → put_by (leaves_of R) (context_of cur v) cur v value ≡ end
     unfolding context_of put_by
     put-target t = rw (e, t)
@@ -230,14 +229,14 @@ module _ (R : Reading) (cur : List ℕ) (v : ℕ) (value : List ℕ) where
         go true = rw e
         go false = rw e
 
-pub as-end : {d d' : List ℕ} {s : Step} → length d' ≡ length d → s ≡ end → PutAs d s d' made.Nothing
+pub as-end : {d d' : List ℕ} {s : Step} → length d' ≡ length d → s ≡ end → PutAs d s d' None
 as-end l q = rw q (ends l)
 
-pub as-puts : {d d' next : List ℕ} {n : ℕ} {s : Step} → s ≡ absorb next → Wrote d 0 next d' n → PutAs d s d' (made.Line n)
+pub as-puts : {d d' next : List ℕ} {n : ℕ} {s : Step} → s ≡ absorb next → Wrote d 0 next d' n → PutAs d s d' (Some n)
 as-puts q w = rw q (puts refl w)
 
 -- the buffer may have been written before
-pub put-after : {d₀ d d' : List ℕ} {s : Step} {r : Made} → length d ≡ length d₀ → PutAs d s d' r → PutAs d₀ s d' r
+pub put-after : {d₀ d d' : List ℕ} {s : Step} {r : Option ℕ} → length d ≡ length d₀ → PutAs d s d' r → PutAs d₀ s d' r
 put-after q (ends l) = ends (l ∙ q)
 put-after q (puts l w) = puts (l ∙ q) w
 
@@ -263,7 +262,7 @@ module _ (R : Reading) (cur : List ℕ) (v : ℕ) (value : List ℕ) (below take
         unfolding absorb_step
         absorb-puts q = rw (← a, eq-eqb n 1 z, ← b, h, ← c, q)
 
-pub put_step : {d d' : List ℕ} {s t : Step} {r : Made} → s ≡ t → PutAs d t d' r → PutAs d s d' r
+pub put_step : {d d' : List ℕ} {s t : Step} {r : Option ℕ} → s ≡ t → PutAs d t d' r → PutAs d s d' r
 put_step q p = rw q p
 
 -- ---- the scan back to the LF above

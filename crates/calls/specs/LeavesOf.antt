@@ -7,8 +7,9 @@ use Rattle.text.specs.Trim.{trim_start}
 use Rattle.parse.specs.Parse.{parse_of}
 use Rattle.parse.specs.declared.Line.{Line}
 use Rattle.parse.specs.declared.Line.TheVariants as line
-use Rattle.words.specs.declared.Hit.{Hit}
-use Rattle.words.specs.declared.Hit.TheVariants as hit
+use Rattle.std.specs.declared.option.Option.{Option}
+use Rattle.text.specs.declared.Span.{Span}
+use Rattle.std.specs.declared.option.Option.TheVariants.{Some, None}
 use Rattle.words.specs.Hits.{reg_hit, after_new, as_target, replace_reg}
 use Rattle.place.specs.Region.{is_header}
 use Rattle.place.specs.Blocks.{blocks}
@@ -31,9 +32,9 @@ unfoldable pub parsed_of : List ℕ → Parsed
 parsed_of l = parsed_by l (parse_of l)
 
 -- what stands around the one place of a register
-abbrev pub context_by : List ℕ → Hit → Context
-context_by l hit.Not = unclear
-context_by l (hit.One w) = cond (as_target w.to l) target (cond (after_new w.from l) newed operand)
+abbrev pub context_by : List ℕ → Option Span → Context
+context_by l None = unclear
+context_by l (Some w) = cond (as_target w.to l) target (cond (after_new w.from l) newed operand)
 
 -- `occurrence_context`
 unfoldable pub context_of : List ℕ → ℕ → Context

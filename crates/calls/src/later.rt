@@ -65,8 +65,8 @@ fn note_name(t: &[u8], own: &[usize], c: u32, h: u32, near: &mut [u32])
     ensures { near.new ≡ read_name own.now c h (reg_of t.now) near.old }
 {
     match names::reg_name(t) {
-        names::RegName::Reg(q) => note_read(q, own, c, h, near),
-        names::RegName::None => {}
+        Some(q) => note_read(q, own, c, h, near),
+        None => {}
     }
 }
 

@@ -27,13 +27,6 @@ ghost use Rattle.calls.specs.Inner.Steps.{is_second, may_control, breaks_down, w
 ghost use Rattle.calls.specs.Inner.Later.{Noted, Spans};
 ghost use Rattle.calls.specs.Inner.Tables.{tabled, rows_at, Keeps, Stands, Placed, Foot, Peaked, Ready, TurnedLine, Rebuilt, owners_of};
 
-// What putting a value into a line makes: a line of so many bytes, or nothing.
-#[derive(Clone, Copy)]
-pub enum Made {
-    Line(usize),
-    Nothing,
-}
-
 // Whether a byte stands second in a word that a condition or a loop begins with.
 fn is_second(x: u8) -> bool
     ensures { result ≡ is_second x }
@@ -219,20 +212,20 @@ fn put_value(line: &[u8], w: text::Span, value: &[u8], after: bool, out: &mut [u
 }
 
 // Writes a line with a value in the place of a register, where the register stands once and not as a target.
-fn put_in(line: &[u8], reg: names::Register, value: &[u8], out: &mut [u8]) -> Made
+fn put_in(line: &[u8], reg: names::Register, value: &[u8], out: &mut [u8]) -> Option<usize>
     requires { length line.now + length value.now + 2 ≤ length out.old }
     ensures { PutAs out.old (put_by (leaves_of plain) (context_of line.now reg.0) line.now reg.0 value.now) out.new result }
 {
     match words::find_reg(line, reg) {
-        words::Hit::One(w) => {
+        Some(w) => {
             if words::as_target(line, w.to) {
-                return Made::Nothing;
+                return None;
             }
             let after = words::after_new(line, w.from);
             let n = put_value(line, w, value, after, out);
-            Made::Line(n)
+            Some(n)
         }
-        words::Hit::Not => Made::Nothing,
+        None => None,
     }
 }
 
@@ -249,20 +242,20 @@ fn absorb(
     taken: &[u8],
     owner: &[usize],
     out: &mut [u8],
-) -> Made
+) -> Option<usize>
     requires { (length line.now + length value.now + 2 ≤ length out.old)
         × (Noted reg.0 above.now (get_or notes.now (2 * k) 0) (get_or notes.now (2 * k + 1) 0) (length owner.now + 1) (lines_of below.now)) }
     ensures { PutAs out.old (absorb_step plain line.now reg.0 value.now (lines_of below.now) (lines_of taken.now) owner.now) out.new result }
 {
     let u = reading::use_of(line, reg);
     if u.reads != 1 {
-        return Made::Nothing;
+        return None;
     }
     if is_read(below, reg, above, k, owner.len() + 1, notes) {
-        return Made::Nothing;
+        return None;
     }
     if breaks_above(value, taken, owner, out) {
-        return Made::Nothing;
+        return None;
     }
     put_in(line, reg, value, out)
 }
@@ -363,7 +356,7 @@ fn walk_up(
                 &owner[k..n],
                 next,
             );
-            let Made::Line(m) = made else { break };
+            let Some(m) = made else { break };
             c = lines::put(cur, 0, lines::cut(next, 0, m));
             owner[k - 1] = n - k + 1;
             over = over | place::is_header(above);

@@ -16,7 +16,7 @@ use Rattle.text.specs.Utf8Form.{seq_len}
 use Rattle.text.specs.Trim.{white_char, white_head, lead, from_of, to_of, trim_of}
 use Rattle.names.specs.Names.{read_number, reg_of, is_reg}
 use Rattle.names.specs.Inner.Names.{zeros}
-use Rattle.names.specs.declared.RegName.TheVariants as name
+use Rattle.std.specs.declared.option.Option.TheVariants.{Some, None}
 use Rattle.parse.specs.Parse.{let_word, body_of, all_regs, is_decl}
 use Rattle.weight.specs.Inner.Weight.{spaced, extra, heavy, weight}
 use Rattle.weight.proofs.Weigh.{length-weight, weight-append, weight-cut, weight-take, weight-drop, weight-rest, spaced-drop, weight-line, nothing}
@@ -112,7 +112,7 @@ unfolding reg_of prefixed read_number
 reg-long [] h = no h
 reg-long (x ∷ []) h = go (eqb 114 x) h
   where
-    go : (b : Bool) → is_reg (cond (b && true) name.None name.None) ≡ true → 2 ≤ 1
+    go : (b : Bool) → is_reg (cond (b && true) None None) ≡ true → 2 ≤ 1
     go true g = no g
     go false g = no g
 reg-long (x ∷ d ∷ ds) h = omega arith

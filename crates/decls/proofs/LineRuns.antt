@@ -15,8 +15,8 @@ use Rattle.text.specs.Class.{is_name}
 use Rattle.text.specs.Trim.{from_of, to_end, trim_of}
 use Rattle.text.proofs.Trims.{to_end-le, trim-part}
 use Rattle.names.specs.Names.{reg_of}
-use Rattle.names.specs.declared.RegName.{RegName}
-use Rattle.names.specs.declared.RegName.TheVariants as name
+use Rattle.std.specs.declared.option.Option.{Option}
+use Rattle.std.specs.declared.option.Option.TheVariants.{Some, None}
 use Rattle.names.specs.declared.Register.{Register}
 use Rattle.names.proofs.Texts.{reg-names}
 use Rattle.parse.specs.Parse.{is_decl, store_by, split_store, store_in, parse_of, text_of}
@@ -105,13 +105,13 @@ module _ (own : List ℕ) (m : ℕ) (l d : List ℕ) (e : ends_in 59 (trim_of l)
         (sym (part_in a n (b + from_of rhs) (b + to_end rhs) l g) ∙ ap (part (b + from_of rhs) (b + to_end rhs)) (sym s)
         ∙ ap (λ (i : ℕ). take i (drop (b + from_of rhs) u)) z ∙ ap (take (to_end rhs - from_of rhs)) (sym (drop-drop (from_of rhs) b u)) ∙ sym (trim-part rhs))
 
-    store-runs : (q : Register) → reg_of (trim_of (take (up_to 61 u) u)) ≡ name.Reg q → mark_runs own m (runs l) d ≡ mark_runs own m (runs (trim_of rhs)) (with_entry own q.0 m d)
+    store-runs : (q : Register) → reg_of (trim_of (take (up_to 61 u) u)) ≡ Some q → mark_runs own m (runs l) d ≡ mark_runs own m (runs (trim_of rhs)) (with_entry own q.0 m d)
     unfolding runs
     store-runs q r =
         let x : List ℕ = trim_of (take (up_to 61 u) u) in
         ap (λ (rs : List (List ℕ)). mark_runs own m rs d) (line-runs ∙ side-runs ∙ ap (λ (rs : List (List ℕ)). rs ++ runs rhs) (trim-runs (take (up_to 61 u) u) ∙ name_runs x [] (reg-names x q r)))
         ∙ runs-flush own m x (runs rhs) d
-        ∙ ap (λ (n : RegName). mark_runs own m (runs rhs) (mark_name own m n d)) r
+        ∙ ap (λ (n : Option Register). mark_runs own m (runs rhs) (mark_name own m n d)) r
         ∙ ap (λ (rs : List (List ℕ)). mark_runs own m rs (with_entry own q.0 m d)) (trim-runs rhs)
 
 -- ---- a line
@@ -125,11 +125,11 @@ module _ (own : List ℕ) (m : ℕ) (l d : List ℕ) where
   unfolding mark_line parse_of text_of runs runs_go mark_runs
   line-decl-marked e = rw e
 
-  by_name : (e : ends_in 59 (trim_of l) ≡ true) (h : up_to 61 (u own m l d e) < length (u own m l d e)) (r : RegName) → reg_of (trim_of (take (up_to 61 (u own m l d e)) (u own m l d e))) ≡ r →
+  by_name : (e : ends_in 59 (trim_of l) ≡ true) (h : up_to 61 (u own m l d e) < length (u own m l d e)) (r : Option Register) → reg_of (trim_of (take (up_to 61 (u own m l d e)) (u own m l d e))) ≡ r →
       mark_runs own m (runs l) d ≡ marked (store_by r (from_of l + (up_to 61 (u own m l d e) + 1)) (rhs own m l d e h))
   unfolding text_of
-  by_name e h name.None q = refl
-  by_name e h (name.Reg g) q = store-runs own m l d e h g q ∙ ap (λ (s : List ℕ). mark_runs own m (runs s) (with_entry own g.0 m d)) (sym (value-is own m l d e h))
+  by_name e h None q = refl
+  by_name e h (Some g) q = store-runs own m l d e h g q ∙ ap (λ (s : List ℕ). mark_runs own m (runs s) (with_entry own g.0 m d)) (sym (value-is own m l d e h))
 
   pub line-runs-marked : is_decl (trim_of l) ≡ false → mark_runs own m (runs l) d ≡ mark_line own m l d
   unfolding mark_line parse_of store_in text_of

@@ -15,8 +15,9 @@ use Rattle.names.specs.Names.{is_digit, read_number, reg_by, reg_of}
 use Rattle.names.proofs.Texts.{reg-first, reg-two, digit-is}
 use Rattle.parse.proofs.Plain.{inside, name-at}
 use Rattle.parse.proofs.PlainLine.{first_taken, bare-none}
-use Rattle.names.specs.declared.RegName.{RegName}
-use Rattle.names.specs.declared.RegName.TheVariants as name
+use Rattle.std.specs.declared.option.Option.{Option}
+use Rattle.names.specs.declared.Register.{Register}
+use Rattle.std.specs.declared.option.Option.TheVariants.{Some, None}
 use Rattle.words.specs.Runs.{runs_go, runs}
 use Rattle.words.specs.Inner.Runs.{up_by, run_len}
 use Rattle.slots.specs.Inner.Slots.{with_entry}
@@ -36,7 +37,7 @@ run-gap : (x : ℕ) (s : List ℕ) → is_name x ≡ false → run_of (x ∷ s) 
 unfolding up_by
 run-gap x s e = rw e
 
-reg-other : (x : ℕ) (s : List ℕ) → eqb x 114 ≡ false → reg_of (x ∷ s) ≡ name.None
+reg-other : (x : ℕ) (s : List ℕ) → eqb x 114 ≡ false → reg_of (x ∷ s) ≡ None
 unfolding reg_of prefixed
 reg-other x s e = rw (eqb-sym 114 x, e)
 
@@ -68,7 +69,7 @@ module _ (own : List ℕ) (m : ℕ) where
   -- a run that begins with another byte names no register
   pick : (x : ℕ) (r d : List ℕ) (b : Bool) → eqb x 114 ≡ b → mark_name own m (reg_of (x ∷ r)) d ≡ cond (b && true) (mark_name own m (reg_of (x ∷ r)) d) d
   pick x r d true e = refl
-  pick x r d false e = ap (λ (n : RegName). mark_name own m n d) (reg-other x r e)
+  pick x r d false e = ap (λ (n : Option Register). mark_name own m n d) (reg-other x r e)
 
   from-begin : (x : ℕ) (s d : List ℕ) → is_name x ≡ true → mark_from own m false (x ∷ s) d ≡ mark_from own m true s (mark_name own m (reg_of (x ∷ run_of s)) d)
   from-begin x s d e =
@@ -238,7 +239,7 @@ run_ends s i e = go (ltb i (length s)) refl
     go false q = up-end (λ (x : ℕ). not (is_name x)) s i (ltb-false i (length s) q)
 
 -- a run of `r` and one digit
-pub run_short : (s : List ℕ) (i d : ℕ) → get_or s i 0 ≡ 114 → d ≡ get_or s (i + 1) 0 → is_digit d ≡ true → is_name (get_or s (i + 2) 0) ≡ false → reg_of (run_at i s) ≡ name.Reg (record { 0 = d - 48 })
+pub run_short : (s : List ℕ) (i d : ℕ) → get_or s i 0 ≡ 114 → d ≡ get_or s (i + 1) 0 → is_digit d ≡ true → is_name (get_or s (i + 2) 0) ≡ false → reg_of (run_at i s) ≡ Some (record { 0 = d - 48 })
 run_short s i d e p f n =
     let g : is_name (get_or s (i + 1) 0) ≡ true = ap (λ (x : ℕ). is_name x) (sym p) ∙ digit-name d f in
     let b : i + 1 < length s = name-inside s (i + 1) g in
@@ -252,13 +253,13 @@ run_short s i d e p f n =
 -- ---- a run that names no register
 
 -- it does not begin with `r`
-pub run-other : (s : List ℕ) (i : ℕ) → (get_or s i 0 ≡ 114 → ⊥) → reg_of (run_at i s) ≡ name.None
+pub run-other : (s : List ℕ) (i : ℕ) → (get_or s i 0 ≡ 114 → ⊥) → reg_of (run_at i s) ≡ None
 run-other s i n =
     let z : i + 0 ≡ i = omega arith in
     reg-first (run_at i s) (first_taken 114 (λ e. absurd (omega arith)) (run_len (drop i s)) (drop i s) (λ e. n (ap (λ (k : ℕ). get_or s k 0) (sym z) ∙ sym (get_or-drop i s 0 0) ∙ e)))
 
 -- no digit stands behind the `r`
-pub run-bare : (s : List ℕ) (i : ℕ) → get_or s i 0 ≡ 114 → is_digit (get_or s (i + 1) 0) ≡ false → reg_of (run_at i s) ≡ name.None
+pub run-bare : (s : List ℕ) (i : ℕ) → get_or s i 0 ≡ 114 → is_digit (get_or s (i + 1) 0) ≡ false → reg_of (run_at i s) ≡ None
 run-bare s i e f =
     let z : i + 1 + 0 ≡ i + 1 = omega arith in
     ap (λ (l : List ℕ). reg_of (take (run_len (drop i s)) l)) (name-at s i e)
@@ -269,12 +270,12 @@ before-is s zero b n q = absurd (n refl)
 before-is s (suc i) b n q = let z : suc i - 1 ≡ i = omega arith in ap (λ (x : ℕ). is_name x) (sym (q ∙ ap (λ (k : ℕ). get_or s k 0) z))
 
 module _ (own : List ℕ) (m : ℕ) (s d : List ℕ) (i : ℕ) where
-  pub mark-none : reg_of (run_at i s) ≡ name.None → d ≡ cond (name_before i s) d (mark_name own m (reg_of (run_at i s)) d)
+  pub mark-none : reg_of (run_at i s) ≡ None → d ≡ cond (name_before i s) d (mark_name own m (reg_of (run_at i s)) d)
   mark-none e = go (name_before i s)
     where
       go : (b : Bool) → d ≡ cond b d (mark_name own m (reg_of (run_at i s)) d)
       go true = refl
-      go false = sym (ap (λ (n : RegName). mark_name own m n d) e)
+      go false = sym (ap (λ (n : Option Register). mark_name own m n d) e)
 
   pub mark-held : name_before i s ≡ true → d ≡ cond (name_before i s) d (mark_name own m (reg_of (run_at i s)) d)
   mark-held e = sym (ap (λ (b : Bool). cond b d (mark_name own m (reg_of (run_at i s)) d)) e)
@@ -284,4 +285,4 @@ module _ (own : List ℕ) (m : ℕ) (s d : List ℕ) (i : ℕ) where
 
   pub mark-short : (d' : List ℕ) (x : ℕ) → name_before i s ≡ false → get_or s i 0 ≡ 114 → x ≡ get_or s (i + 1) 0 → is_digit x ≡ true → is_name (get_or s (i + 2) 0) ≡ false → d' ≡ with_entry own (x - 48) m d →
       d' ≡ cond (name_before i s) d (mark_name own m (reg_of (run_at i s)) d)
-  mark-short d' x e p q f n y = mark-free d' e (y ∙ sym (ap (λ (r : RegName). mark_name own m r d) (run_short s i x p q f n)))
+  mark-short d' x e p q f n y = mark-free d' e (y ∙ sym (ap (λ (r : Option Register). mark_name own m r d) (run_short s i x p q f n)))

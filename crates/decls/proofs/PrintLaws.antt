@@ -16,7 +16,7 @@ use Rattle.lines.proofs.OutLaws.{Writing, writing_start, writing-as, writing-roo
 use Rattle.text.specs.Trim.{trim_of}
 use Rattle.names.specs.Names.{decimal}
 use Rattle.names.specs.Inner.Names.{zeros, number_after}
-use Rattle.names.specs.declared.Number.TheVariants as number
+use Rattle.std.specs.declared.option.Option.TheVariants.{Some, None}
 use Rattle.names.proofs.Digits.{zeros-lt}
 use Rattle.names.proofs.Texts.{after-read, after-copied}
 use Rattle.parse.specs.Parse.{let_word}
@@ -26,7 +26,7 @@ use Rattle.decls.specs.Inner.Print.{bare_name, one, kept, lead_of, end_of, named
 -- ---- a name as it is printed
 
 -- a name that was read is printed by its own digits
-pub after-bare : (p s : List ℕ) (v : ℕ) → number_after p s ≡ number.Of v → p ++ decimal v ≡ bare_name (length p) s
+pub after-bare : (p s : List ℕ) (v : ℕ) → number_after p s ≡ Some v → p ++ decimal v ≡ bare_name (length p) s
 unfolding bare_name
 after-bare p s v h =
     let f : take (length p) s ≡ p = ap (take (length p)) (after-read p s v h).0 ∙ take-append_seam p (drop (length p) s) in

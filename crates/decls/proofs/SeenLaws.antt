@@ -12,8 +12,9 @@ use Rattle.lines.proofs.Tests.{or-true, or-false}
 use Rattle.lines.proofs.LfLaws.{lines-at, lines_end}
 use Rattle.text.specs.Class.{is_name}
 use Rattle.names.specs.Names.{reg_of, reg_is}
-use Rattle.names.specs.declared.RegName.{RegName}
-use Rattle.names.specs.declared.RegName.TheVariants as name
+use Rattle.std.specs.declared.option.Option.{Option}
+use Rattle.names.specs.declared.Register.{Register}
+use Rattle.std.specs.declared.option.Option.TheVariants.{Some, None}
 use Rattle.parse.specs.Parse.{parse_of, text_of}
 use Rattle.parse.specs.declared.Line.{Line}
 use Rattle.parse.specs.declared.Line.TheVariants as line
@@ -42,9 +43,9 @@ entry_past own d v m k e h = set_past d (slot_of (length d) own v) m (omega (ari
 
 -- ---- the table keeps its length
 
-pub name-length : (own : List ℕ) (m : ℕ) (r : RegName) (d : List ℕ) → length (mark_name own m r d) ≡ length d
-name-length own m name.None d = refl
-name-length own m (name.Reg q) d = entry_length own d q.0 m
+pub name-length : (own : List ℕ) (m : ℕ) (r : Option Register) (d : List ℕ) → length (mark_name own m r d) ≡ length d
+name-length own m None d = refl
+name-length own m (Some q) d = entry_length own d q.0 m
 
 pub runs-length : (own : List ℕ) (m : ℕ) (rs : List (List ℕ)) (d : List ℕ) → length (mark_runs own m rs d) ≡ length d
 unfolding mark_runs
@@ -95,9 +96,9 @@ module _ (own : List ℕ) (m v : ℕ) where
       go true e = eq-eqb _ m (ap (λ (n : ℕ). entry_of own v (with_entry own n m d)) (eqb-true k v e) ∙ entry-same own d v m h)
       go false e = ap (λ (n : ℕ). eqb n m) (entry_other own d k m v h (eqb-false k v e))
 
-  name-says : (r : RegName) (d : List ℕ) → Placed own v d → marked (mark_name own m r d) ≡ reg_is v r || marked d
-  name-says name.None d h = refl
-  name-says (name.Reg q) d h = entry-says q.0 d h
+  name-says : (r : Option Register) (d : List ℕ) → Placed own v d → marked (mark_name own m r d) ≡ reg_is v r || marked d
+  name-says None d h = refl
+  name-says (Some q) d h = entry-says q.0 d h
 
   runs-says : (rs : List (List ℕ)) (d : List ℕ) → Placed own v d → marked (mark_runs own m rs d) ≡ ltb 0 (count_by (λ (r : List ℕ). reg_is v (reg_of r)) rs) || marked d
   unfolding mark_runs count_by
@@ -141,9 +142,9 @@ set-most m zero (suc v) (x ∷ d) h = h
 set-most m (suc k) zero (x ∷ d) h = h
 set-most m (suc k) (suc v) (x ∷ d) h = set-most m k v d h
 
-name-most : (own : List ℕ) (m : ℕ) (r : RegName) (d : List ℕ) → AtMost m d → AtMost m (mark_name own m r d)
-name-most own m name.None d h = h
-name-most own m (name.Reg q) d h = λ v. set-most m (slot_of (length d) own q.0) v d (h v)
+name-most : (own : List ℕ) (m : ℕ) (r : Option Register) (d : List ℕ) → AtMost m d → AtMost m (mark_name own m r d)
+name-most own m None d h = h
+name-most own m (Some q) d h = λ v. set-most m (slot_of (length d) own q.0) v d (h v)
 
 runs-most : (own : List ℕ) (m : ℕ) (rs : List (List ℕ)) (d : List ℕ) → AtMost m d → AtMost m (mark_runs own m rs d)
 unfolding mark_runs
@@ -394,9 +395,9 @@ asked-says own m run d h v = go (ltb (slot_of (length d) own v) (length d)) refl
     go true e = h v (ltb-true _ _ e)
     go false e = refl
 
-pub seen-stays : (own : List ℕ) (m : ℕ) (run : List (List ℕ)) (d : List ℕ) → Says own m run d → (r : RegName) → seen_stays own m d run r ≡ stays_by run r
-seen-stays own m run d h name.None = refl
-seen-stays own m run d h (name.Reg q) = asked-says own m run d h q.0
+pub seen-stays : (own : List ℕ) (m : ℕ) (run : List (List ℕ)) (d : List ℕ) → Says own m run d → (r : Option Register) → seen_stays own m d run r ≡ stays_by run r
+seen-stays own m run d h None = refl
+seen-stays own m run d h (Some q) = asked-says own m run d h q.0
 
 -- ---- a table of zeros holds no mark
 

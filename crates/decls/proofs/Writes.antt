@@ -17,8 +17,8 @@ use Rattle.lines.proofs.OutLaws.{Writing, writing_start, writing-as, writing-put
 use Rattle.text.specs.Trim.{from_of, trim_of}
 use Rattle.names.specs.Names.{reg_of, reg_text, reg_word}
 use Rattle.names.specs.declared.Register.{Register}
-use Rattle.names.specs.declared.RegName.{RegName}
-use Rattle.names.specs.declared.RegName.TheVariants as name
+use Rattle.std.specs.declared.option.Option.{Option}
+use Rattle.std.specs.declared.option.Option.TheVariants.{Some, None}
 use Rattle.names.proofs.Texts.{reg-number}
 use Rattle.parse.specs.Parse.{body_of, is_decl}
 use Rattle.place.specs.Region.{is_header, region, region_at}
@@ -33,15 +33,15 @@ use Rattle.decls.proofs.Chunks.{chunk-open, chunk-shut, chunk-none}
 -- ---- the names that stay
 
 -- a register that was read is printed by its own digits
-pub reg-bare : (t : List ℕ) (q : Register) → reg_of t ≡ name.Reg q → reg_text q.0 ≡ bare_name 1 t
+pub reg-bare : (t : List ℕ) (q : Register) → reg_of t ≡ Some q → reg_text q.0 ≡ bare_name 1 t
 reg-bare t q h = after-bare reg_word t q.0 (reg-number t q h)
 
 pub keep-one : (run : List (List ℕ)) (t : List ℕ) → keep_one run (reg_of t) ≡ one (stays run t) 1 t
 keep-one run t = go (reg_of t) refl
   where
-    go : (r : RegName) → reg_of t ≡ r → keep_one run r ≡ one (stays_by run r) 1 t
-    go name.None h = refl
-    go (name.Reg q) h = ap (λ (x : List ℕ). cond (used_in q.0 run) (x ∷ []) []) (reg-bare t q h)
+    go : (r : Option Register) → reg_of t ≡ r → keep_one run r ≡ one (stays_by run r) 1 t
+    go None h = refl
+    go (Some q) h = ap (λ (x : List ℕ). cond (used_in q.0 run) (x ∷ []) []) (reg-bare t q h)
 
 pub names-kept : (run ps : List (List ℕ)) → keep_names run ps ≡ kept (stays run) 1 ps
 unfolding keep_names kept

@@ -6,8 +6,9 @@ use Rattle.lines.specs.Lf.{parts_of}
 use Rattle.lines.specs.Acts.{Act, keep, become, gone, apply}
 use Rattle.text.specs.Trim.{from_of, trim_of}
 use Rattle.names.specs.Names.{reg_of, reg_text}
-use Rattle.names.specs.declared.RegName.{RegName}
-use Rattle.names.specs.declared.RegName.TheVariants as name
+use Rattle.std.specs.declared.option.Option.{Option}
+use Rattle.names.specs.declared.Register.{Register}
+use Rattle.std.specs.declared.option.Option.TheVariants.{Some, None}
 use Rattle.parse.specs.Parse.{let_word, body_of, is_decl}
 use Rattle.place.specs.Region.{region, region_at}
 use Rattle.reading.specs.Uses.{used_in}
@@ -28,9 +29,9 @@ decl_act indent (x ∷ xs) = become (indent ++ let_word ++ commas x xs ++ ascii 
 -- ---- the pass
 
 -- a register as it is printed, where its region uses it
-abbrev pub keep_one : List (List ℕ) → RegName → List (List ℕ)
-keep_one run name.None = []
-keep_one run (name.Reg q) = cond (used_in q.0 run) (reg_text q.0 ∷ []) []
+abbrev pub keep_one : List (List ℕ) → Option Register → List (List ℕ)
+keep_one run None = []
+keep_one run (Some q) = cond (used_in q.0 run) (reg_text q.0 ∷ []) []
 
 -- the names that stay, of the pieces of a declaration
 unfoldable pub keep_names : List (List ℕ) → List (List ℕ) → List (List ℕ)

@@ -23,8 +23,8 @@ pub fn stays_in(region: &[u8], own: &[usize], m: usize, seen: &[usize], t: &[u8]
     ensures { result ≡ seen_stays own.now m seen.now (lines_of region.now) (reg_of t.now) }
 {
     match names::reg_name(t) {
-        names::RegName::Reg(q) => seen::used_in(region, own, m, seen, q),
-        names::RegName::None => false,
+        Some(q) => seen::used_in(region, own, m, seen, q),
+        None => false,
     }
 }
 

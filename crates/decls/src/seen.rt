@@ -27,8 +27,8 @@ fn mark_name(t: &[u8], own: &[usize], m: usize, seen: &mut [usize])
     ensures { seen.new ≡ mark_name own.now m (reg_of t.now) seen.old }
 {
     match names::reg_name(t) {
-        names::RegName::Reg(q) => mark_reg(q, own, m, seen),
-        names::RegName::None => {}
+        Some(q) => mark_reg(q, own, m, seen),
+        None => {}
     }
 }
 

@@ -14,8 +14,9 @@ use Rattle.lines.proofs.Tests.{no, and_left, and_right}
 use Rattle.lines.proofs.Compare.{same-eq}
 use Rattle.text.specs.Class.{is_name, is_quote}
 use Rattle.names.specs.Names.{reg_of, is_reg, is_ident}
-use Rattle.names.specs.declared.RegName.{RegName}
-use Rattle.names.specs.declared.RegName.TheVariants as name
+use Rattle.std.specs.declared.option.Option.{Option}
+use Rattle.names.specs.declared.Register.{Register}
+use Rattle.std.specs.declared.option.Option.TheVariants.{Some, None}
 use Rattle.names.proofs.Texts.{reg-names, ident-names}
 use Rattle.lexical.specs.Lex.{quote_len, quote_shut}
 use Rattle.expr.specs.Fix.{deep, fix}
@@ -209,9 +210,9 @@ array-calm t w c =
 
 -- ---- the shapes of a pure text
 
-reg-calm : (t : List ℕ) (r : RegName) → reg_of t ≡ r → is_reg r ≡ true → Calm t
-reg-calm t (name.Reg q) e h = plain-calm (λ (x : ℕ). is_name x) refl refl refl refl t (reg-names t q e)
-reg-calm t name.None e h = no h
+reg-calm : (t : List ℕ) (r : Option Register) → reg_of t ≡ r → is_reg r ≡ true → Calm t
+reg-calm t (Some q) e h = plain-calm (λ (x : ℕ). is_name x) refl refl refl refl t (reg-names t q e)
+reg-calm t None e h = no h
 
 word-calm : (t : List ℕ) → is_word t ≡ true → Calm t
 word-calm t h =

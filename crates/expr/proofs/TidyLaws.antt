@@ -15,8 +15,9 @@ use Rattle.lines.proofs.Tests.{no, and-false, and_left, and_right, and_both}
 use Rattle.lines.proofs.Compare.{same-eq}
 use Rattle.text.specs.Class.{is_name, is_quote}
 use Rattle.names.specs.Names.{reg_of, is_reg, is_ident}
-use Rattle.names.specs.declared.RegName.{RegName}
-use Rattle.names.specs.declared.RegName.TheVariants as name
+use Rattle.std.specs.declared.option.Option.{Option}
+use Rattle.names.specs.declared.Register.{Register}
+use Rattle.std.specs.declared.option.Option.TheVariants.{Some, None}
 use Rattle.names.proofs.Texts.{reg-names, ident-names}
 use Rattle.lexical.specs.Lex.{quote_len, quote_shut}
 use Rattle.expr.specs.Quotes.{cut_go, strip_quoted, is_closed}
@@ -385,9 +386,9 @@ closed-ends (x ∷ s) h =
     let n : suc (quote_len s x) ≡ suc (length s) = eqb-true _ _ (and_left (eqb (suc (quote_len s x)) (suc (length s))) _ k) in
     rw (either-quote x (and_left (among (34 ∷ 39 ∷ []) x) _ h)) (shut-ends x s (omega arith) (and_right (eqb (suc (quote_len s x)) (suc (length s))) _ k))
 
-reg-ends : (t : List ℕ) (r : RegName) → reg_of t ≡ r → is_reg r ≡ true → ends outside t ≡ outside
-reg-ends t (name.Reg q) e h = plain-ends (λ (x : ℕ). is_name x) refl refl refl t (reg-names t q e)
-reg-ends t name.None e h = no h
+reg-ends : (t : List ℕ) (r : Option Register) → reg_of t ≡ r → is_reg r ≡ true → ends outside t ≡ outside
+reg-ends t (Some q) e h = plain-ends (λ (x : ℕ). is_name x) refl refl refl t (reg-names t q e)
+reg-ends t None e h = no h
 
 -- the six words have no quotes
 word-ends : (t : List ℕ) → is_word t ≡ true → ends outside t ≡ outside

@@ -176,8 +176,8 @@ fn is_register(t: &[u8]) -> bool
     ensures { result ≡ is_reg (reg_of t.now) }
 {
     match names::reg_name(t) {
-        names::RegName::Reg(_) => true,
-        names::RegName::None => false,
+        Some(_) => true,
+        None => false,
     }
 }
 

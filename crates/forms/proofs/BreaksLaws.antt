@@ -12,8 +12,8 @@ use Rattle.lines.specs.Lf.{part, prefixed, holds}
 use Rattle.lines.proofs.Tests.{no, or-true, eqb-sym}
 use Rattle.lines.proofs.LfLaws.{rest_of}
 use Rattle.text.specs.declared.Span.{Span}
-use Rattle.lexical.specs.declared.Word.{Word}
-use Rattle.lexical.specs.declared.Word.TheVariants as variant
+use Rattle.std.specs.declared.option.Option.{Option}
+use Rattle.std.specs.declared.option.Option.TheVariants.{Some, None}
 use Rattle.lexical.specs.Lex.{strip_lexical}
 use Rattle.lexical.specs.Idents.{chars_go, words_go, words_in}
 use Rattle.lexical.specs.Inner.Idents.{next_word}
@@ -131,10 +131,10 @@ any-cons n ns l b e = rw e
 
 -- the next word, written or not, and no further word
 module _ (t l : List ℕ) (i : ℕ) where
-  pub any_word : {r : Word} {w : Span} → r ≡ next_word t i → r ≡ variant.At w → (n : List ℕ) → n ≡ part w.from w.to t → (b : Bool) → writes n l ≡ b → writes_any (words_from t i) l ≡ b || writes_any (words_from t w.to) l
+  pub any_word : {r : Option Span} {w : Span} → r ≡ next_word t i → r ≡ Some w → (n : List ℕ) → n ≡ part w.from w.to t → (b : Bool) → writes n l ≡ b → writes_any (words_from t i) l ≡ b || writes_any (words_from t w.to) l
   any_word {r} {w} p q n m b h = ap (λ (ns : List (List ℕ)). writes_any ns l) (next-some t i w (sym p ∙ q)) ∙ any-cons _ _ l b (ap (λ (x : List ℕ). writes x l) (sym m) ∙ h)
 
-  pub any_none : next_word t i ≡ variant.None → writes_any (words_from t i) l ≡ false
+  pub any_none : next_word t i ≡ None → writes_any (words_from t i) l ≡ false
   unfolding writes_any
   any_none e = ap (λ (ns : List (List ℕ)). writes_any ns l) (next-none t i e)
 

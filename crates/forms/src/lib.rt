@@ -234,13 +234,13 @@ fn writes_any(clean: &[u8], line: &[u8]) -> bool
     let mut i = 0;
     loop {
         match lexical::next_word(clean, i) {
-            lexical::Word::At(w) => {
+            Some(w) => {
                 if writes(lines::cut(clean, w.from, w.to), line) {
                     return true;
                 }
                 i = w.to;
             }
-            lexical::Word::None => return false,
+            None => return false,
         }
     }
 }

@@ -14,8 +14,8 @@ use Rattle.lines.specs.Lf.{within, part, prefixed, is_empty}
 use Rattle.lines.proofs.LfLaws.{part_none}
 use Rattle.text.specs.declared.Span.{Span}
 use Rattle.text.proofs.Rows.{seq_len-fits}
-use Rattle.lexical.specs.declared.Word.{Word}
-use Rattle.lexical.specs.declared.Word.TheVariants as variant
+use Rattle.std.specs.declared.option.Option.{Option}
+use Rattle.std.specs.declared.option.Option.TheVariants.{Some, None}
 use Rattle.lexical.proofs.ByteLaws.{first-is}
 use Rattle.lexical.proofs.EndLaws.{cons-at}
 use Rattle.lexical.specs.Idents.{char_len, chars_go, name_low, digit_char, digits, no_word, flush_word, joins, words_go, words_in}
@@ -105,7 +105,7 @@ module _ {t : List ℕ} {a j : ℕ} (p : Spot t a j) where
 
 -- one character, or the end: the first word, and all words
 module _ {t : List ℕ} {a j : ℕ} (p : Spot t a j) where
-  from_end : length t ≤ j → word_from (chars_go (drop j t) 0) j (part a j t) ≡ cond (no_word (part a j t)) variant.None (variant.At (record { from = a; to = j }))
+  from_end : length t ≤ j → word_from (chars_go (drop j t) 0) j (part a j t) ≡ cond (no_word (part a j t)) None (Some (record { from = a; to = j }))
   unfolding word_from
   from_end h = rw (chars-end t j h, spot-from p)
 
@@ -120,7 +120,7 @@ module _ {t : List ℕ} {a j : ℕ} (p : Spot t a j) where
     join : part a j t ++ part j e t ≡ part a e t
     join = let m = char-on t j e h q in part_join t a j e p.a≤j (omega arith)
 
-    from_at : word_from (chars_go (drop j t) 0) j (part a j t) ≡ cond (joins (part j e t) (eqb a j)) (word_from (chars_go (drop e t) 0) e (part a e t)) (cond (no_word (part a j t)) (word_from (chars_go (drop e t) 0) e (part e e t)) (variant.At (record { from = a; to = j })))
+    from_at : word_from (chars_go (drop j t) 0) j (part a j t) ≡ cond (joins (part j e t) (eqb a j)) (word_from (chars_go (drop e t) 0) e (part a e t)) (cond (no_word (part a j t)) (word_from (chars_go (drop e t) 0) e (part e e t)) (Some (record { from = a; to = j })))
     unfolding word_from
     from_at = rw (chars-at t j e h q, after, join, spot-empty p, spot-from p, part_none t e)
 
@@ -148,23 +148,23 @@ module _ {t : List ℕ} {i a j : ℕ} (w : WordInv t i a j) where
     pub word-skip : joins (part j e t) (eqb a j) ≡ false → no_word (part a j t) ≡ true → WordInv t i e e
     word-skip b n = record { spot = spot-none t e; so_far = sym (from_at w.spot e h q ∙ rw (b, n)) ∙ w.so_far }
 
-    pub word-here : joins (part j e t) (eqb a j) ≡ false → no_word (part a j t) ≡ false → variant.At (record { from = a; to = j }) ≡ next_word t i
+    pub word-here : joins (part j e t) (eqb a j) ≡ false → no_word (part a j t) ≡ false → Some (record { from = a; to = j }) ≡ next_word t i
     word-here b n = sym (from_at w.spot e h q ∙ rw (b, n)) ∙ w.so_far
 
-  pub word-last : length t ≤ j → no_word (part a j t) ≡ false → variant.At (record { from = a; to = j }) ≡ next_word t i
+  pub word-last : length t ≤ j → no_word (part a j t) ≡ false → Some (record { from = a; to = j }) ≡ next_word t i
   word-last h n = sym (from_end w.spot h ∙ rw n) ∙ w.so_far
 
-  pub word_none : length t ≤ j → no_word (part a j t) ≡ true → variant.None ≡ next_word t i
+  pub word_none : length t ≤ j → no_word (part a j t) ≡ true → None ≡ next_word t i
   word_none h n = sym (from_end w.spot h ∙ rw n) ∙ w.so_far
 
 -- ---- the words by their places
 
 -- what holds of the first word, character by character: at the end, and where a character goes on with the word so far or does not
-module _ (t : List ℕ) (P : ℕ → ℕ → Word → Type 0)
-    (ends : (a j : ℕ) → Spot t a j → length t ≤ j → (b : Bool) → no_word (part a j t) ≡ b → P a j (cond b variant.None (variant.At (record { from = a; to = j }))))
-    (more : (a j e : ℕ) → Spot t a j → j < length t → e ≡ j + char_len (drop j t) → joins (part j e t) (eqb a j) ≡ true → (r : Word) → P a e r → P a j r)
-    (skip : (a j e : ℕ) → Spot t a j → j < length t → e ≡ j + char_len (drop j t) → joins (part j e t) (eqb a j) ≡ false → no_word (part a j t) ≡ true → (r : Word) → P e e r → P a j r)
-    (here : (a j e : ℕ) → Spot t a j → j < length t → e ≡ j + char_len (drop j t) → joins (part j e t) (eqb a j) ≡ false → no_word (part a j t) ≡ false → P a j (variant.At (record { from = a; to = j }))) where
+module _ (t : List ℕ) (P : ℕ → ℕ → Option Span → Type 0)
+    (ends : (a j : ℕ) → Spot t a j → length t ≤ j → (b : Bool) → no_word (part a j t) ≡ b → P a j (cond b None (Some (record { from = a; to = j }))))
+    (more : (a j e : ℕ) → Spot t a j → j < length t → e ≡ j + char_len (drop j t) → joins (part j e t) (eqb a j) ≡ true → (r : Option Span) → P a e r → P a j r)
+    (skip : (a j e : ℕ) → Spot t a j → j < length t → e ≡ j + char_len (drop j t) → joins (part j e t) (eqb a j) ≡ false → no_word (part a j t) ≡ true → (r : Option Span) → P e e r → P a j r)
+    (here : (a j e : ℕ) → Spot t a j → j < length t → e ≡ j + char_len (drop j t) → joins (part j e t) (eqb a j) ≡ false → no_word (part a j t) ≡ false → P a j (Some (record { from = a; to = j }))) where
   first-go : (m a j : ℕ) → length t - j ≤ m → Spot t a j → P a j (word_from (chars_go (drop j t) 0) j (part a j t))
   first-go zero a j f p = rw (from_end p (omega arith)) (ends a j p (omega arith) (no_word (part a j t)) refl)
   first-go (suc m) a j f p = go (leb (length t) j) refl (λ a e f p. first-go m a e f p)
@@ -183,7 +183,7 @@ module _ (t : List ℕ) (P : ℕ → ℕ → Word → Type 0)
           on = char-on t j e h refl
 
           step : (u : Bool) → joins (part j e t) (eqb a j) ≡ u → (v : Bool) → no_word (part a j t) ≡ v →
-              P a j (cond u (word_from (chars_go (drop e t) 0) e (part a e t)) (cond v (word_from (chars_go (drop e t) 0) e (part e e t)) (variant.At (record { from = a; to = j }))))
+              P a j (cond u (word_from (chars_go (drop e t) 0) e (part a e t)) (cond v (word_from (chars_go (drop e t) 0) e (part e e t)) (Some (record { from = a; to = j }))))
           step true x v y = more a j e p h refl x _ (ih a e (omega (arith, on)) (spot-more p e (omega (arith, on)) (char-end t j e h refl)))
           step false x true y = skip a j e p h refl x y _ (ih e e (omega (arith, on)) (spot-none t e))
           step false x false y = here a j e p h refl x y
@@ -210,15 +210,15 @@ spot-some {t} {a} {j} p n = let k = eqb-false a j (sym (spot-empty p) ∙ word_s
 
 module _ (t : List ℕ) where
   -- the words from a word so far on are those from the first one on
-  abbrev WordsBy : ℕ → ℕ → Word → Type 0
+  abbrev WordsBy : ℕ → ℕ → Option Span → Type 0
   WordsBy a j r = words_go (chars_go (drop j t) 0) (part a j t) ≡ words_by t r
 
-  words-ends : (a j : ℕ) → Spot t a j → length t ≤ j → (b : Bool) → no_word (part a j t) ≡ b → WordsBy a j (cond b variant.None (variant.At (record { from = a; to = j })))
+  words-ends : (a j : ℕ) → Spot t a j → length t ≤ j → (b : Bool) → no_word (part a j t) ≡ b → WordsBy a j (cond b None (Some (record { from = a; to = j })))
   unfolding words_by flush_word words_go prefixed
   words-ends a j p h true n = words-end p h ∙ rw n
   words-ends a j p h false n = words-end p h ∙ rw (n, chars-end t j h)
 
-  words-here : (a j e : ℕ) → Spot t a j → j < length t → e ≡ j + char_len (drop j t) → joins (part j e t) (eqb a j) ≡ false → no_word (part a j t) ≡ false → WordsBy a j (variant.At (record { from = a; to = j }))
+  words-here : (a j e : ℕ) → Spot t a j → j < length t → e ≡ j + char_len (drop j t) → joins (part j e t) (eqb a j) ≡ false → no_word (part a j t) ≡ false → WordsBy a j (Some (record { from = a; to = j }))
   unfolding words_by flush_word prefixed
   words-here a j e p h q b n =
       let k = spot-some p n in
@@ -241,15 +241,15 @@ module _ (t : List ℕ) where
   words-first = words-next 0
 
   -- the next word is not is_empty, and stands in the text, from i on
-  abbrev pub Placed : ℕ → Word → Type 0
-  Placed i (variant.At w) = (i ≤ w.from) × ((w.from < w.to) × (w.to ≤ length t))
-  Placed i variant.None = Unit {0}
+  abbrev pub Placed : ℕ → Option Span → Type 0
+  Placed i (Some w) = (i ≤ w.from) × ((w.from < w.to) × (w.to ≤ length t))
+  Placed i None = Unit {0}
 
-  placed-later : (a e : ℕ) → a ≤ e → (r : Word) → Placed e r → Placed a r
-  placed-later a e h (variant.At w) p = let l = p.0 in (omega arith, p.1)
-  placed-later a e h variant.None p = tt
+  placed-later : (a e : ℕ) → a ≤ e → (r : Option Span) → Placed e r → Placed a r
+  placed-later a e h (Some w) p = let l = p.0 in (omega arith, p.1)
+  placed-later a e h None p = tt
 
-  placed-ends : (a j : ℕ) → Spot t a j → length t ≤ j → (b : Bool) → no_word (part a j t) ≡ b → Placed a (cond b variant.None (variant.At (record { from = a; to = j })))
+  placed-ends : (a j : ℕ) → Spot t a j → length t ≤ j → (b : Bool) → no_word (part a j t) ≡ b → Placed a (cond b None (Some (record { from = a; to = j })))
   placed-ends a j p h true n = tt
   placed-ends a j p h false n =
       let k = spot-some p n in
@@ -267,15 +267,15 @@ module _ (t : List ℕ) where
 
   -- the same for a next word that is known
   module _ (i : ℕ) where
-    pub next-some : (w : Span) → next_word t i ≡ variant.At w → words_go (chars_go (drop i t) 0) [] ≡ part w.from w.to t ∷ words_go (chars_go (drop w.to t) 0) []
+    pub next-some : (w : Span) → next_word t i ≡ Some w → words_go (chars_go (drop i t) 0) [] ≡ part w.from w.to t ∷ words_go (chars_go (drop w.to t) 0) []
     unfolding words_by
     next-some w e = words-next i ∙ ap (words_by t) e
 
-    pub next-none : next_word t i ≡ variant.None → words_go (chars_go (drop i t) 0) [] ≡ []
+    pub next-none : next_word t i ≡ None → words_go (chars_go (drop i t) 0) [] ≡ []
     unfolding words_by
     next-none e = words-next i ∙ ap (words_by t) e
 
-    pub next-placed : (w : Span) → next_word t i ≡ variant.At w → (i ≤ w.from) × ((w.from < w.to) × (w.to ≤ length t))
+    pub next-placed : (w : Span) → next_word t i ≡ Some w → (i ≤ w.from) × ((w.from < w.to) × (w.to ≤ length t))
     next-placed w e = subst (Placed i) e (word-placed i)
 
 -- ---- the loop of `is_no_word`

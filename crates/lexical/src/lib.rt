@@ -608,13 +608,6 @@ pub fn phi_rhs_pure(s: &[u8]) -> bool
     !(seen.effect | seen.waits)
 }
 
-// The place of a word, or none.
-#[derive(Clone, Copy)]
-pub enum Word {
-    At(text::Span),
-    None,
-}
-
 // How many bytes the character at a place has; a byte that begins none stands alone.
 fn char_len(t: &[u8], i: usize) -> usize
     ensures { result ≡ char_len (drop i t.now) }
@@ -650,7 +643,7 @@ fn is_no_word(w: &[u8]) -> bool
 
 // The first word at or after the place `i` of a cleaned text, where a character begins: from the place 0, and then from the end of
 // the last, these are the words of the text.
-pub fn next_word(t: &[u8], i: usize) -> Word
+pub fn next_word(t: &[u8], i: usize) -> Option<text::Span>
     ensures { result ≡ next_word t.now i }
 {
     let mut a = i;
@@ -661,16 +654,16 @@ pub fn next_word(t: &[u8], i: usize) -> Word
             j = e;
         } else {
             if !is_no_word(&t[a..j]) {
-                return Word::At(text::Span { from: a, to: j });
+                return Some(text::Span { from: a, to: j });
             }
             a = e;
             j = e;
         }
     }
     if !is_no_word(lines::cut(t, a, j)) {
-        return Word::At(text::Span { from: a, to: j });
+        return Some(text::Span { from: a, to: j });
     }
-    Word::None
+    None
 }
 
 // What a line leaves open for the next: nothing, a block comment, or a template.

@@ -8,8 +8,8 @@ use borrow.Author.Tests.{lt-ltb, le-ltb, ltb-false, eq-eqb, ne_eqb}
 use lib.Dec.{ltb}
 use native.Mathlib.Nat.{zero-add}
 use lib.ListN.{length, take, drop}
-use Rattle.lines.specs.declared.Crowded as crowd
-use Rattle.lines.specs.declared.Crowded.TheVariants as crowd-is
+use Rattle.std.specs.declared.option.Option.{Option}
+use Rattle.std.specs.declared.option.Option.TheVariants.{Some, None}
 use Rattle.lines.specs.Lf.{within}
 use Rattle.lines.specs.Inner.Out.{put_at, Wrote}
 use Rattle.lines.specs.Steps.{split_lines, over_from}
@@ -40,7 +40,7 @@ module _ (L : Limits) (F : Form) (t : List ℕ) (fine : Answer) where
   unfolding checked_lines
   lines-wide h w = rw (le-ltb L.lines (length (split_lines t)) h, w)
 
-  pub lines-few : length (split_lines t) ≤ L.lines → is_wide F (length (split_lines t)) ≡ false → {x : crowd.Crowded} → over_from 64 91 0 (split_lines t) ≡ x → by_crowd x fine ≡ checked_lines L F t fine
+  pub lines-few : length (split_lines t) ≤ L.lines → is_wide F (length (split_lines t)) ≡ false → {x : Option ℕ} → over_from 64 91 0 (split_lines t) ≡ x → by_crowd x fine ≡ checked_lines L F t fine
   unfolding checked_lines
   lines-few h w e = rw (le-ltb L.lines (length (split_lines t)) h, w, e)
 
@@ -71,26 +71,26 @@ flaw-done flaw-is.Overlong i = (refl, refl)
 flaw-done flaw-is.Outside i = (refl, refl)
 
 -- the checks by what each asks
-abbrev pub tests : Limits → Bool → Bool → utf8.Utf8 → List ℕ → Bool → Bool → crowd.Crowded → Answer → Answer
+abbrev pub tests : Limits → Bool → Bool → utf8.Utf8 → List ℕ → Bool → Bool → Option ℕ → Answer → Answer
 tests L p s v t q w o x = cond p (TooLong L.bytes) (cond s ShortWork (by_utf8 v t (cond q (TooManyLines L.lines) (cond w WideLines (by_crowd o x)))))
 
-record Passed (L : Limits) (p s : Bool) (v : utf8.Utf8) (t : List ℕ) (q w : Bool) (o : crowd.Crowded) : Type 0 where
+record Passed (L : Limits) (p s : Bool) (v : utf8.Utf8) (t : List ℕ) (q w : Bool) (o : Option ℕ) : Type 0 where
   not-long : p ≡ false
   not_short : s ≡ false
   not-many : q ≡ false
   same : (x : Answer) → tests L p s v t q w o x ≡ x
 
-passed-by : (L : Limits) (p s : Bool) (v : utf8.Utf8) (t : List ℕ) (q w : Bool) (o : crowd.Crowded) → is_done (tests L p s v t q w o (Done 0)) ≡ true → Passed L p s v t q w o
+passed-by : (L : Limits) (p s : Bool) (v : utf8.Utf8) (t : List ℕ) (q w : Bool) (o : Option ℕ) → is_done (tests L p s v t q w o (Done 0)) ≡ true → Passed L p s v t q w o
 unfolding is_done
 passed-by L true s v t q w o h = no h
 passed-by L false true v t q w o h = no h
 passed-by L false false (utf8-is.Bad i) t q w o h = no (sym (flaw-done (flaw_of (drop i t)) i).0 ∙ h)
 passed-by L false false utf8-is.Valid t true w o h = no h
 passed-by L false false utf8-is.Valid t false true o h = no h
-passed-by L false false utf8-is.Valid t false false (crowd-is.At n) h = no h
-passed-by L false false utf8-is.Valid t false false crowd-is.Nowhere h = record { not-long = refl; not_short = refl; not-many = refl; same = λ x. refl }
+passed-by L false false utf8-is.Valid t false false (Some n) h = no h
+passed-by L false false utf8-is.Valid t false false None h = record { not-long = refl; not_short = refl; not-many = refl; same = λ x. refl }
 
-stopped_by : (L : Limits) (p s : Bool) (v : utf8.Utf8) (t : List ℕ) (q w : Bool) (o : crowd.Crowded) → is_done (tests L p s v t q w o (Done 0)) ≡ false → (x : Answer) →
+stopped_by : (L : Limits) (p s : Bool) (v : utf8.Utf8) (t : List ℕ) (q w : Bool) (o : Option ℕ) → is_done (tests L p s v t q w o (Done 0)) ≡ false → (x : Answer) →
     (tests L p s v t q w o x ≡ tests L p s v t q w o (Done 0)) × (passes_ran (tests L p s v t q w o (Done 0)) ≡ false)
 unfolding is_done passes_ran
 stopped_by L true s v t q w o h x = (refl, refl)
@@ -98,8 +98,8 @@ stopped_by L false true v t q w o h x = (refl, refl)
 stopped_by L false false (utf8-is.Bad i) t q w o h x = (refl, (flaw-done (flaw_of (drop i t)) i).1)
 stopped_by L false false utf8-is.Valid t true w o h x = (refl, refl)
 stopped_by L false false utf8-is.Valid t false true o h x = (refl, refl)
-stopped_by L false false utf8-is.Valid t false false (crowd-is.At n) h x = (refl, refl)
-stopped_by L false false utf8-is.Valid t false false crowd-is.Nowhere h x = no (sym h)
+stopped_by L false false utf8-is.Valid t false false (Some n) h x = (refl, refl)
+stopped_by L false false utf8-is.Valid t false false None h x = no (sym h)
 
 -- no check refuses a text: a work buffer is not too short, and the text is within the limits
 pub record Accepted (L : Limits) (F : Form) (short : Bool) (t : List ℕ) : Type 0 where

@@ -6,8 +6,8 @@ use mathlib.Core.List.{List}
 use borrow.Author.Tests.{ltb-false, lt-ltb, eqb-false}
 use lib.Dec.{ltb, eqb}
 use lib.ListN.{length, drop}
-use Rattle.lines.specs.declared.Crowded as crowd
-use Rattle.lines.specs.declared.Crowded.TheVariants as crowd-is
+use Rattle.std.specs.declared.option.Option.{Option}
+use Rattle.std.specs.declared.option.Option.TheVariants.{Some, None}
 use Rattle.lines.specs.Lf.{within}
 use Rattle.lines.specs.Steps.{split_lines, over_from}
 use Rattle.lines.proofs.Tests.{no}
@@ -48,15 +48,15 @@ room-narrow n room need have = go (ltb room n) (ltb have need)
     go false true = refl
     go false false = refl
 
-tests-narrow : (L : Limits) (p s : Bool) (v : utf8.Utf8) (t : List ℕ) (q w : Bool) (o : crowd.Crowded) (x : Answer) → (q ≡ false → w ≡ false) → is_refusal x ≡ false → is_refusal (tests L p s v t q w o x) ≡ false
+tests-narrow : (L : Limits) (p s : Bool) (v : utf8.Utf8) (t : List ℕ) (q w : Bool) (o : Option ℕ) (x : Answer) → (q ≡ false → w ≡ false) → is_refusal x ≡ false → is_refusal (tests L p s v t q w o x) ≡ false
 unfolding number_of
 tests-narrow L true s v t q w o x h k = refl
 tests-narrow L false true v t q w o x h k = refl
 tests-narrow L false false (utf8-is.Bad i) t q w o x h k = flaw-narrow (flaw_of (drop i t)) i
 tests-narrow L false false utf8-is.Valid t true w o x h k = refl
 tests-narrow L false false utf8-is.Valid t false true o x h k = no (sym (h refl))
-tests-narrow L false false utf8-is.Valid t false false (crowd-is.At n) x h k = refl
-tests-narrow L false false utf8-is.Valid t false false crowd-is.Nowhere x h k = k
+tests-narrow L false false utf8-is.Valid t false false (Some n) x h k = refl
+tests-narrow L false false utf8-is.Valid t false false None x h k = k
 
 module _ (L : Limits) (F : Form) (k mode : ℕ) (short : Bool) (t xs : List ℕ) (room have : ℕ) where
   -- where a form has numbers for every number of lines within limits

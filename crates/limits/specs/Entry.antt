@@ -1,8 +1,8 @@
 -- What the entries answer, and what stands in the lent buffers afterwards. Assumes nothing.
 use Rattle.std.specs.Prelude.{ℕ, ◌+◌, ◌*◌, Bool, false, cond, ◌||◌, List, ◌++◌, ltb, length, drop, replicate}
 use Prim.Native.Char.{code}
-use Rattle.lines.specs.declared.Crowded as crowd
-use Rattle.lines.specs.declared.Crowded.TheVariants as crowd-is
+use Rattle.std.specs.declared.option.Option.{Option}
+use Rattle.std.specs.declared.option.Option.TheVariants.{Some, None}
 use Rattle.lines.specs.Lf.{within}
 use Rattle.lines.specs.Steps.{split_lines, over_from}
 use Rattle.text.specs.declared.Utf8 as utf8
@@ -76,9 +76,9 @@ abbrev pub by_utf8 : utf8.Utf8 → List ℕ → Answer → Answer
 by_utf8 utf8-is.Valid t fine = fine
 by_utf8 (utf8-is.Bad i) t fine = by_flaw (flaw_of (drop i t)) i
 
-abbrev pub by_crowd : crowd.Crowded → Answer → Answer
-by_crowd crowd-is.Nowhere fine = fine
-by_crowd (crowd-is.At n) fine = Crowded n
+abbrev pub by_crowd : Option ℕ → Answer → Answer
+by_crowd None fine = fine
+by_crowd (Some n) fine = Crowded n
 
 -- a form of records has no numbers for so many lines: `OL` has those of 2 bytes, and 65,535 stands for gone; no text has too many for `OM`
 abbrev pub is_wide : Form → ℕ → Bool

@@ -242,8 +242,8 @@ fn refused_lines(m: Limits, form: origins::Form, text: &[u8]) -> Answer
         return Answer::WideLines;
     }
     match lines::crowded_line(text, 64) {
-        lines::Crowded::At(n) => Answer::Crowded(n),
-        lines::Crowded::Nowhere => Answer::Done(0),
+        Some(n) => Answer::Crowded(n),
+        None => Answer::Done(0),
     }
 }
 

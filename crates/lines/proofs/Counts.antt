@@ -4,7 +4,7 @@ use lib.ListN.{length-map}
 use Rattle.lines.proofs.Tests.{no, and_left, and_right}
 use Rattle.lines.proofs.LfLaws.{lines-first, lines-at, lines_end, lines-no_lf}
 use Rattle.lines.proofs.StepLaws.{drop-case, drop-one, missing_lf, lines-text}
-use Rattle.lines.specs.declared.Crowded.TheVariants.{At, Nowhere}
+use Rattle.std.specs.declared.option.Option.TheVariants.{Some, None}
 use Rattle.lines.specs.Lf.{part, up_to, count_of, prefixed, ends_in, cut_on, lines_of, unlines}
 use Rattle.lines.specs.Inner.Lf.{lacks, no_lf}
 use Rattle.lines.specs.Steps.{drop_cr, split_lines, over_from}
@@ -133,7 +133,7 @@ module _ (most b : ℕ) where
   over-start h t = sym (over-counts 0 (lines_of (drop_cr t)) (lines_of t) (drop-counts b h t))
 
   -- lines that hold no more than `most` in all
-  over-few : (n : ℕ) (ls : List (List ℕ)) → count_of b (unlines ls) ≤ most → over_from most b n ls ≡ Nowhere
+  over-few : (n : ℕ) (ls : List (List ℕ)) → count_of b (unlines ls) ≤ most → over_from most b n ls ≡ None
   unfolding over_from unlines
   over-few n [] h = refl
   over-few n (l ∷ ls) h =
@@ -141,22 +141,22 @@ module _ (most b : ℕ) where
       let f = count-append b (10 ∷ []) (unlines ls) in
       rw (le-ltb most (count_of b l) (omega arith)) (over-few (suc n) ls (omega arith))
 
-  pub over_none : eqb 13 b ≡ false → eqb 10 b ≡ false → (t : List ℕ) → count_of b t ≤ most → over_from most b 0 (split_lines t) ≡ Nowhere
+  pub over_none : eqb 13 b ≡ false → eqb 10 b ≡ false → (t : List ℕ) → count_of b t ≤ most → over_from most b 0 (split_lines t) ≡ None
   over_none h k t m =
       sym (over-start h t)
       ∙ over-few 0 (lines_of t) (omega (arith, ap (count_of b) (lines-text t), count-append b t (missing_lf t), missing-other b k t))
 
-  over-case : (n : ℕ) (l : List ℕ) (ls : List (List ℕ)) (t : Bool) → ltb most (count_of b l) ≡ t → over_from most b n (l ∷ ls) ≡ cond t (At n) (over_from most b (suc n) ls)
+  over-case : (n : ℕ) (l : List ℕ) (ls : List (List ℕ)) (t : Bool) → ltb most (count_of b l) ≡ t → over_from most b n (l ∷ ls) ≡ cond t (Some n) (over_from most b (suc n) ls)
   unfolding over_from
   over-case n l ls t e = rw e
 
   module _ (s : List ℕ) (n i e : ℕ) (h : i < length s) (q : e ≡ i + up_to 10 (drop i s)) where
-    pub over-here : most < count_of b (part i e s) → over_from most b n (lines_of (drop i s)) ≡ At n
+    pub over-here : most < count_of b (part i e s) → over_from most b n (lines_of (drop i s)) ≡ Some n
     over-here k = ap (over_from most b n) (lines-at s i e h q) ∙ over-case n _ _ true (lt-ltb most _ k)
 
     pub over-on : count_of b (part i e s) ≤ most → over_from most b n (lines_of (drop i s)) ≡ over_from most b (n + 1) (lines_of (drop (min (e + 1) (length s)) s))
     over-on k = rw (add-one n) (ap (over_from most b n) (lines-at s i e h q) ∙ over-case n _ _ false (le-ltb most _ k))
 
-  pub over-end : (s : List ℕ) (n i : ℕ) → length s ≤ i → over_from most b n (lines_of (drop i s)) ≡ Nowhere
+  pub over-end : (s : List ℕ) (n i : ℕ) → length s ≤ i → over_from most b n (lines_of (drop i s)) ≡ None
   unfolding over_from
   over-end s n i h = ap (over_from most b n) (lines_end s i h)

@@ -2,8 +2,8 @@
 use Rattle.std.specs.Prelude.{ℕ, zero, suc, ◌+◌, ◌-◌, Bool, true, false, cond, not, ◌&&◌, List, [], ◌∷◌, ◌++◌, ◌==◌, nat_lt}
 use Prim.Native.Char.{code}
 use Rattle.lines.specs.Ascii.{ascii}
-use Rattle.lines.specs.declared.Crowded.{Crowded}
-use Rattle.lines.specs.declared.Crowded.TheVariants.{At, Nowhere}
+use Rattle.std.specs.declared.option.Option.{Option}
+use Rattle.std.specs.declared.option.Option.TheVariants.{Some, None}
 use Rattle.lines.specs.Lf.{count_of, prefixed, ends_in, lines_of}
 
 -- without each CR that stands just before an LF
@@ -33,6 +33,6 @@ unfoldable pub joined : Bool → List (List ℕ) → List ℕ
 joined ended ls = settle ended (join_lines ls)
 
 -- the first line with more than `most` bytes b, counted from n
-unfoldable pub over_from : ℕ → ℕ → ℕ → List (List ℕ) → Crowded
-over_from most b n [] = Nowhere
-over_from most b n (l ∷ ls) = cond (nat_lt most (count_of b l)) (At n) (over_from most b (suc n) ls)
+unfoldable pub over_from : ℕ → ℕ → ℕ → List (List ℕ) → Option ℕ
+over_from most b n [] = None
+over_from most b n (l ∷ ls) = cond (nat_lt most (count_of b l)) (Some n) (over_from most b (suc n) ls)

@@ -491,34 +491,27 @@ pub fn count_lines(text: &[u8]) -> usize
     n + 1
 }
 
-// The first line with more than `most` of some byte.
-#[derive(Clone, Copy)]
-pub enum Crowded {
-    At(usize),
-    Nowhere,
-}
-
 // The first line with more than `most` bytes `b`.
-fn first_over(text: &[u8], most: usize, b: u8) -> Crowded
+fn first_over(text: &[u8], most: usize, b: u8) -> Option<usize>
     ensures { result ≡ over_from most b 0 (lines_of text.now) }
 {
     let mut n = 0;
     for line in each::each(text) {
         if most < count_byte(line.bytes, b) {
-            return Crowded::At(n);
+            return Some(n);
         }
         n += 1;
     }
-    Crowded::Nowhere
+    None
 }
 
 // The first line with more than `most` bytes `[`: none, where the whole text has no more.
-pub fn crowded_line(text: &[u8], most: usize) -> Crowded
+pub fn crowded_line(text: &[u8], most: usize) -> Option<usize>
     ensures { result ≡ over_from most 91 0 (split_lines text.now) }
 {
     let b = b'[';
     if count_byte(text, b) <= most {
-        return Crowded::Nowhere;
+        return None;
     }
     first_over(text, most, b)
 }

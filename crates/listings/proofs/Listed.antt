@@ -13,8 +13,9 @@ use Rattle.expr.specs.Comments.{strip, strip_comments}
 use Rattle.expr.specs.Pure.{space_start, space_end, space_trim, wrapped, shape_of, openings, closings, elements, pure_by, judge, purity_in, purity_of}
 use Rattle.words.specs.Hits.{hits_go, hits, one_hit, reg_hit, glue_left, glue_right, glued, replaced_at, replace_reg}
 use Rattle.lexical.specs.Lex.{quote_len, pattern_len, comment_len, last_of, token_of, lex_go, strip_lexical}
-use Rattle.names.specs.declared.RegName.{RegName}
-use Rattle.names.specs.declared.RegName.TheVariants as name
+use Rattle.std.specs.declared.option.Option.{Option}
+use Rattle.names.specs.declared.Register.{Register}
+use Rattle.std.specs.declared.option.Option.TheVariants.{Some, None}
 use Rattle.parse.specs.declared.Line.{Line}
 use Rattle.parse.specs.declared.Line.TheVariants as parsed
 use Rattle.expr.specs.declared.kinds.Purity.{Purity}
@@ -32,7 +33,7 @@ pub data Asked : Type 0 where
 
 pub data Answer : Type 0 where
   line : Line → Answer
-  register : RegName → Answer
+  register : Option Register → Answer
   purity : Purity → Answer
   text : List ℕ → Answer
   texts : List (List ℕ) → Answer
@@ -63,8 +64,8 @@ rows =
     -- `r1 == r2;` is other
     ∷ row (reads (114 ∷ 49 ∷ 32 ∷ 61 ∷ 61 ∷ 32 ∷ 114 ∷ 50 ∷ 59 ∷ [])) (line parsed.Other)
     -- `r18446744073709551615` is a register, the next is none
-    ∷ row (names (114 ∷ 49 ∷ 56 ∷ 52 ∷ 52 ∷ 54 ∷ 55 ∷ 52 ∷ 52 ∷ 48 ∷ 55 ∷ 51 ∷ 55 ∷ 48 ∷ 57 ∷ 53 ∷ 53 ∷ 49 ∷ 54 ∷ 49 ∷ 53 ∷ [])) (register (name.Reg (record { 0 = 18446744073709551615 })))
-    ∷ row (names (114 ∷ 49 ∷ 56 ∷ 52 ∷ 52 ∷ 54 ∷ 55 ∷ 52 ∷ 52 ∷ 48 ∷ 55 ∷ 51 ∷ 55 ∷ 48 ∷ 57 ∷ 53 ∷ 53 ∷ 49 ∷ 54 ∷ 49 ∷ 54 ∷ [])) (register name.None)
+    ∷ row (names (114 ∷ 49 ∷ 56 ∷ 52 ∷ 52 ∷ 54 ∷ 55 ∷ 52 ∷ 52 ∷ 48 ∷ 55 ∷ 51 ∷ 55 ∷ 48 ∷ 57 ∷ 53 ∷ 53 ∷ 49 ∷ 54 ∷ 49 ∷ 53 ∷ [])) (register (Some (record { 0 = 18446744073709551615 })))
+    ∷ row (names (114 ∷ 49 ∷ 56 ∷ 52 ∷ 52 ∷ 54 ∷ 55 ∷ 52 ∷ 52 ∷ 48 ∷ 55 ∷ 51 ∷ 55 ∷ 48 ∷ 57 ∷ 53 ∷ 53 ∷ 49 ∷ 54 ∷ 49 ∷ 54 ∷ [])) (register None)
     -- `"a" + f() + "b"` is Stable
     ∷ row (values (34 ∷ 97 ∷ 34 ∷ 32 ∷ 43 ∷ 32 ∷ 102 ∷ 40 ∷ 41 ∷ 32 ∷ 43 ∷ 32 ∷ 34 ∷ 98 ∷ 34 ∷ [])) (purity Stable)
     -- `"http://x"` is Effectful

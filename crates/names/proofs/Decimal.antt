@@ -10,8 +10,8 @@ use lib.Dec.{ltb, leb, eqb}
 use lib.ListN.{length, drop, get_or, length-append, get_or-append}
 use Rattle.lines.specs.Lf.{same}
 use Rattle.lines.proofs.Tests.{is-in, and_left, and_right, and_both}
-use Rattle.names.specs.declared.Number.{Number}
-use Rattle.names.specs.declared.Number.TheVariants.{Of, None}
+use Rattle.std.specs.declared.option.Option.{Option}
+use Rattle.std.specs.declared.option.Option.TheVariants.{Some, None}
 use Rattle.names.specs.Names.{is_digit, all_digits, value, read_number, decimal_by, decimal}
 use Rattle.names.specs.Inner.Names.{zeros}
 use Rattle.names.proofs.Digits.{all_append, value-append, number-is, number_read, strip-zeros, strip-number}
@@ -128,10 +128,10 @@ pub decimal-zeros : (v : ℕ) → zeros (decimal v) ≡ 0
 decimal-zeros v = ap zeros (decimal-by v) ∙ decimal-bare 19 v
 
 -- what is printed is read as the number
-pub decimal-value : (v : ℕ) → v < 2 ^ 64 → read_number (decimal v) ≡ Of v
+pub decimal-value : (v : ℕ) → v < 2 ^ 64 → read_number (decimal v) ≡ Some v
 decimal-value v h =
     let w : value 0 (decimal_by 19 v) ≡ v = decimal-worth 19 v in
-    ap read_number (decimal-by v) ∙ number-is (decimal_by 19 v) (decimal-some 19 v) (decimal-digits 19 v (omega arith)) (omega arith) ∙ ap Of w
+    ap read_number (decimal-by v) ∙ number-is (decimal_by 19 v) (decimal-some 19 v) (decimal-digits 19 v (omega arith)) (omega arith) ∙ ap Some w
 
 decimal-one : (n : ℕ) → decimal_by 0 n ≡ (48 + n) ∷ []
 unfolding decimal_by
@@ -143,7 +143,7 @@ zeros-first d [] z h e = omega arith
 zeros-first d (x ∷ ds) z h e = let q = rw (eq-eqb d 48 e) at z in omega arith
 
 -- digits with no zero in front of another are what is printed of their number
-pub decimal-plain : (ds : List ℕ) (v : ℕ) → read_number ds ≡ Of v → zeros ds ≡ 0 → decimal v ≡ ds
+pub decimal-plain : (ds : List ℕ) (v : ℕ) → read_number ds ≡ Some v → zeros ds ≡ 0 → decimal v ≡ ds
 decimal-plain [] v e z = let y = (number_read [] v e).some in absurd (omega arith)
 decimal-plain (d ∷ ds) v e z =
     let r = number_read (d ∷ ds) v e in
@@ -158,13 +158,13 @@ decimal-plain (d ∷ ds) v e z =
     ∙ ap (λ (l : List ℕ). l ++ ds) (decimal-one w) ∙ ap (λ (m : ℕ). m ∷ ds) q
 
 -- and others once the zeros that lead are gone
-pub decimal-strip : (ds : List ℕ) (v : ℕ) → read_number ds ≡ Of v → decimal v ≡ drop (zeros ds) ds
+pub decimal-strip : (ds : List ℕ) (v : ℕ) → read_number ds ≡ Some v → decimal v ≡ drop (zeros ds) ds
 decimal-strip ds v e = decimal-plain (drop (zeros ds) ds) v (strip-number ds (number_read ds v e).some ∙ e) (strip-zeros ds)
 
 -- ---- whether digits are a number as it is printed
 
-abbrev pub number_is : ℕ → Number → Bool
-number_is v (Of n) = eqb n v
+abbrev pub number_is : ℕ → Option ℕ → Bool
+number_is v (Some n) = eqb n v
 number_is v None = false
 
 pub prints-not : (s : List ℕ) (v : ℕ) → 0 < zeros s → same s (decimal v) ≡ false
@@ -173,9 +173,9 @@ prints-not s v h = same_not s (decimal v) (λ e. let q : zeros s ≡ 0 = ap zero
 pub prints-is : (s : List ℕ) (v : ℕ) → v < 2 ^ 64 → zeros s ≡ 0 → same s (decimal v) ≡ number_is v (read_number s)
 prints-is s v h z = go (read_number s) refl
   where
-    go : (n : Number) → read_number s ≡ n → same s (decimal v) ≡ number_is v n
+    go : (n : Option ℕ) → read_number s ≡ n → same s (decimal v) ≡ number_is v n
     go None e = same_not s (decimal v) (λ q. let y : ◌≡◌ {A = ℕ} 0 1 = cc (ap read_number q, decimal-value v h) in omega arith)
-    go (Of n) e = at (eqb n v) refl
+    go (Some n) e = at (eqb n v) refl
       where
         at : (t : Bool) → eqb n v ≡ t → same s (decimal v) ≡ t
         at true q = ap (same s) (ap decimal (sym (eqb-true n v q)) ∙ decimal-plain s n e z) ∙ same_refl s

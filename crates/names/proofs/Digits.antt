@@ -12,7 +12,7 @@ use lib.ListN.{length, get_or, drop, length-drop, drop_of_length-le}
 use lib.Seq.{drop-cons}
 use Rattle.lines.specs.Lf.{all}
 use Rattle.lines.proofs.Tests.{and-false, and_left, and_right, and_both}
-use Rattle.names.specs.declared.Number.TheVariants.{Of, None}
+use Rattle.std.specs.declared.option.Option.TheVariants.{Some, None}
 use Rattle.names.specs.Names.{is_digit, all_digits, value, numbered, read_number}
 use Rattle.names.specs.Inner.Names.{zeros}
 
@@ -51,7 +51,7 @@ pub too_large : (ds : List ℕ) (v : ℕ) → 2 ^ 64 ≤ v → numbered v ds ≡
 unfolding numbered
 too_large ds v h = simp (le-ltb (value v ds) (2 ^ 64) (le_trans h (value-ge ds v)), and-false)
 
-pub number-end : (v : ℕ) → v < 2 ^ 64 → numbered v [] ≡ Of v
+pub number-end : (v : ℕ) → v < 2 ^ 64 → numbered v [] ≡ Some v
 unfolding numbered
 number-end v h = simp (lt-ltb v (2 ^ 64) h)
 
@@ -88,7 +88,7 @@ number-some [] h = absurd (omega arith)
 number-some (d ∷ ds) h = refl
 
 -- digits whose value fits 64 bits are that number
-pub number-is : (s : List ℕ) → 0 < length s → all_digits s ≡ true → value 0 s < 2 ^ 64 → read_number s ≡ Of (value 0 s)
+pub number-is : (s : List ℕ) → 0 < length s → all_digits s ≡ true → value 0 s < 2 ^ 64 → read_number s ≡ Some (value 0 s)
 unfolding numbered
 number-is s h d l = number-some s h ∙ simp (d, lt-ltb (value 0 s) (2 ^ 64) l)
 
@@ -99,12 +99,12 @@ pub record Read (s : List ℕ) (v : ℕ) : Type 0 where
   pub worth : value 0 s ≡ v
   pub fits : v < 2 ^ 64
 
-pub number_read : (s : List ℕ) (v : ℕ) → read_number s ≡ Of v → Read s v
+pub number_read : (s : List ℕ) (v : ℕ) → read_number s ≡ Some v → Read s v
 unfolding read_number numbered
 number_read [] v e = let z : ◌≡◌ {A = ℕ} 0 1 = cc in absurd (omega arith)
 number_read (d ∷ ds) v e = go (all_digits (d ∷ ds)) refl (ltb (value 0 (d ∷ ds)) (2 ^ 64)) refl e
   where
-    go : (t : Bool) → all_digits (d ∷ ds) ≡ t → (u : Bool) → ltb (value 0 (d ∷ ds)) (2 ^ 64) ≡ u → cond (t && u) (Of (value 0 (d ∷ ds))) None ≡ Of v → Read (d ∷ ds) v
+    go : (t : Bool) → all_digits (d ∷ ds) ≡ t → (u : Bool) → ltb (value 0 (d ∷ ds)) (2 ^ 64) ≡ u → cond (t && u) (Some (value 0 (d ∷ ds))) None ≡ Some v → Read (d ∷ ds) v
     go false p u q e = let z : ◌≡◌ {A = ℕ} 0 1 = cc in absurd (omega arith)
     go true p false q e = let z : ◌≡◌ {A = ℕ} 0 1 = cc in absurd (omega arith)
     go true p true q e =

@@ -4,12 +4,10 @@ use Prim.Native.Char.{code}
 use Rattle.lines.specs.Ascii.{ascii}
 use Rattle.lines.specs.Lf.{within, all, prefixed}
 use Rattle.text.specs.Class.{is_name}
-use Rattle.names.specs.declared.Number.{Number}
-use Rattle.names.specs.declared.Number.TheVariants as number
-use Rattle.names.specs.declared.RegName.{RegName}
-use Rattle.names.specs.declared.RegName.TheVariants as reg
-use Rattle.names.specs.declared.PhiName.{PhiName}
-use Rattle.names.specs.declared.PhiName.TheVariants as phi
+use Rattle.std.specs.declared.option.Option.{Option}
+use Rattle.std.specs.declared.option.Option.TheVariants.{Some, None}
+use Rattle.names.specs.declared.Register.{Register}
+use Rattle.names.specs.declared.Phi.{Phi}
 
 -- ---- numbers
 
@@ -27,13 +25,13 @@ value v [] = v
 value v (d ∷ ds) = value (v * 10 + (d - code "0")) ds
 
 -- digits alone, after digits of the value v, whose value fits 64 bits
-unfoldable pub numbered : ℕ → List ℕ → Number
-numbered v ds = cond (all_digits ds && ltb (value v ds) (2 ^ 64)) (number.Of (value v ds)) number.None
+unfoldable pub numbered : ℕ → List ℕ → Option ℕ
+numbered v ds = cond (all_digits ds && ltb (value v ds) (2 ^ 64)) (Some (value v ds)) None
 
 -- `n.parse()`: one or more digits whose value fits 64 bits; leading zeros do not count
-unfoldable pub read_number : List ℕ → Number
+unfoldable pub read_number : List ℕ → Option ℕ
 unfolding numbered
-read_number [] = number.None
+read_number [] = None
 read_number (d ∷ ds) = numbered 0 (d ∷ ds)
 
 -- the decimal digits of a number below 10 to the k + 1, without leading zeros
@@ -61,23 +59,23 @@ abbrev pub temp_word : List ℕ
 temp_word = ascii "t"
 
 -- the register, the phi, of a number
-abbrev pub reg_by : Number → RegName
-reg_by (number.Of n) = reg.Reg (record { 0 = n })
-reg_by number.None = reg.None
+abbrev pub reg_by : Option ℕ → Option Register
+reg_by (Some n) = Some (record { 0 = n })
+reg_by None = None
 
-abbrev pub phi_by : Number → PhiName
-phi_by (number.Of n) = phi.Phi (record { 0 = n })
-phi_by number.None = phi.None
+abbrev pub phi_by : Option ℕ → Option Phi
+phi_by (Some n) = Some (record { 0 = n })
+phi_by None = None
 
 -- `reg_name`: the register that a text names, `r` and its number
-unfoldable pub reg_of : List ℕ → RegName
+unfoldable pub reg_of : List ℕ → Option Register
 unfolding read_number prefixed
-reg_of s = cond (prefixed reg_word s) (reg_by (read_number (drop 1 s))) reg.None
+reg_of s = cond (prefixed reg_word s) (reg_by (read_number (drop 1 s))) None
 
 -- `phi_name`: the phi that a text names, `phi` and its number
-unfoldable pub phi_of : List ℕ → PhiName
+unfoldable pub phi_of : List ℕ → Option Phi
 unfolding read_number prefixed
-phi_of s = cond (prefixed phi_word s) (phi_by (read_number (drop 3 s))) phi.None
+phi_of s = cond (prefixed phi_word s) (phi_by (read_number (drop 3 s))) None
 
 -- `is_temp_name`: `t` and one or more digits
 unfoldable pub is_temp : List ℕ → Bool
@@ -92,18 +90,18 @@ abbrev pub phi_text : ℕ → List ℕ
 phi_text v = phi_word ++ decimal v
 
 -- a name is that of a register
-abbrev pub is_reg : RegName → Bool
-is_reg (reg.Reg q) = true
-is_reg reg.None = false
+abbrev pub is_reg : Option Register → Bool
+is_reg (Some q) = true
+is_reg None = false
 
 -- a name is that of register v, or of phi v
-abbrev pub reg_is : ℕ → RegName → Bool
-reg_is v reg.None = false
-reg_is v (reg.Reg q) = eqb q.0 v
+abbrev pub reg_is : ℕ → Option Register → Bool
+reg_is v None = false
+reg_is v (Some q) = eqb q.0 v
 
-abbrev pub phi_is : ℕ → PhiName → Bool
-phi_is v phi.None = false
-phi_is v (phi.Phi q) = eqb q.0 v
+abbrev pub phi_is : ℕ → Option Phi → Bool
+phi_is v None = false
+phi_is v (Some q) = eqb q.0 v
 
 -- name bytes alone
 abbrev pub all_names : List ℕ → Bool

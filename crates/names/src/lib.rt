@@ -13,87 +13,69 @@ pub struct Register(pub u64);
 #[derive(Clone, Copy)]
 pub struct Phi(pub u64);
 
-#[derive(Clone, Copy)]
-pub enum Number {
-    Of(u64),
-    None,
-}
-
-#[derive(Clone, Copy)]
-pub enum RegName {
-    Reg(Register),
-    None,
-}
-
-#[derive(Clone, Copy)]
-pub enum PhiName {
-    Phi(Phi),
-    None,
-}
-
 const MOST: u64 = 18446744073709551615;
 
 // The number that at most so many digits are fits 64 bits, whatever they are.
 const FEW: usize = 9;
 
 // The number that few digits are.
-fn read_few(s: &[u8]) -> Number
+fn read_few(s: &[u8]) -> Option<u64>
     requires { length s.now ≤ 9 }
     ensures { result ≡ read_number s.now }
 {
     if s.len() == 0 {
-        return Number::None;
+        return None;
     }
     let mut v: u64 = 0;
     let mut i = 0;
     while i < s.len() {
         let d = s[i];
         if d < b'0' {
-            return Number::None;
+            return None;
         }
         if b'9' < d {
-            return Number::None;
+            return None;
         }
         let x = (d - b'0') as u64;
         v = v * 10 + x;
         i += 1;
     }
-    Number::Of(v)
+    Some(v)
 }
 
 // The number that digits are, where it fits 64 bits.
-fn read_many(s: &[u8]) -> Number
+fn read_many(s: &[u8]) -> Option<u64>
     ensures { result ≡ read_number s.now }
 {
     if s.len() == 0 {
-        return Number::None;
+        return None;
     }
     let mut v: u64 = 0;
     let mut i = 0;
     while i < s.len() {
         let d = s[i];
         if d < b'0' {
-            return Number::None;
+            return None;
         }
         if b'9' < d {
-            return Number::None;
+            return None;
         }
         let x = (d - b'0') as u64;
         if MOST / 10 < v {
-            return Number::None;
+            return None;
         }
         let w = v * 10;
         if MOST - x < w {
-            return Number::None;
+            return None;
         }
         v = w + x;
         i += 1;
     }
-    Number::Of(v)
+    Some(v)
 }
 
 // The same; of few digits the number is not asked whether it fits.
-pub fn read_number(s: &[u8]) -> Number
+pub fn read_number(s: &[u8]) -> Option<u64>
     ensures { result ≡ read_number s.now }
 {
     if s.len() <= FEW {
@@ -117,44 +99,44 @@ pub fn skip_zeros(s: &[u8]) -> usize
 }
 
 // The number that follows a word, where the word stands in front.
-fn number_after(s: &[u8], p: &[u8]) -> Number
+fn number_after(s: &[u8], p: &[u8]) -> Option<u64>
     ensures { result ≡ number_after p.now s.now }
 {
     if !lines::starts_with(s, p) {
-        return Number::None;
+        return None;
     }
     read_number(lines::cut(s, p.len(), s.len()))
 }
 
 // The register whose number is one digit.
-fn digit_name(d: u8) -> RegName
+fn digit_name(d: u8) -> Option<Register>
     ensures { result ≡ reg_by (read_number (d ∷ [])) }
 {
     if d < b'0' {
-        return RegName::None;
+        return None;
     }
     if b'9' < d {
-        return RegName::None;
+        return None;
     }
-    RegName::Reg(Register((d - b'0') as u64))
+    Some(Register((d - b'0') as u64))
 }
 
 // The register that a text names.
-fn long_name(s: &[u8]) -> RegName
+fn long_name(s: &[u8]) -> Option<Register>
     ensures { result ≡ reg_of s.now }
 {
     match number_after(s, b"r") {
-        Number::Of(n) => RegName::Reg(Register(n)),
-        Number::None => RegName::None,
+        Some(n) => Some(Register(n)),
+        None => None,
     }
 }
 
 // The same: most texts do not begin with `r`, or have one digit.
-pub fn reg_name(s: &[u8]) -> RegName
+pub fn reg_name(s: &[u8]) -> Option<Register>
     ensures { result ≡ reg_of s.now }
 {
     if lines::byte_at(s, 0) != b'r' {
-        return RegName::None;
+        return None;
     }
     if s.len() == 2 {
         return digit_name(s[1]);
@@ -163,12 +145,12 @@ pub fn reg_name(s: &[u8]) -> RegName
 }
 
 // The phi that a text names.
-pub fn phi_name(s: &[u8]) -> PhiName
+pub fn phi_name(s: &[u8]) -> Option<Phi>
     ensures { result ≡ phi_of s.now }
 {
     match number_after(s, b"phi") {
-        Number::Of(n) => PhiName::Phi(Phi(n)),
-        Number::None => PhiName::None,
+        Some(n) => Some(Phi(n)),
+        None => None,
     }
 }
 
@@ -211,8 +193,8 @@ fn prints(s: &[u8], v: u64) -> bool
         return false;
     }
     match read_number(s) {
-        Number::Of(n) => n == v,
-        Number::None => false,
+        Some(n) => n == v,
+        None => false,
     }
 }
 
@@ -231,8 +213,8 @@ pub fn names_reg(s: &[u8], reg: Register) -> bool
     ensures { result ≡ reg_is reg.0 (reg_of s.now) }
 {
     match reg_name(s) {
-        RegName::Reg(q) => q.0 == reg.0,
-        RegName::None => false,
+        Some(q) => q.0 == reg.0,
+        None => false,
     }
 }
 

@@ -17,15 +17,16 @@ use Rattle.place.specs.Region.{region}
 use Rattle.place.specs.Paths.{block_paths, tops}
 use Rattle.place.specs.Loops.{inside_loop}
 use Rattle.words.specs.Hits.{reg_hit, replace_reg, replace_by}
-use Rattle.words.specs.declared.Hit.{Hit}
-use Rattle.words.specs.declared.Hit.TheVariants as hit
+use Rattle.std.specs.declared.option.Option.{Option}
+use Rattle.text.specs.declared.Span.{Span}
+use Rattle.std.specs.declared.option.Option.TheVariants.{Some, None}
 use Rattle.words.proofs.Places.{replace-lacks}
 use Rattle.reading.specs.Reading.{Reading}
 use Rattle.once.specs.Once.{Spot, spots_of, spots, lines_in, dropped, forwards, first_of, taken_by, once_act, once_go, once_acts, next_run}
 
-hit-lacks : (h : Hit) (l x : List ℕ) → lacks 10 l ≡ true → lacks 10 x ≡ true → lacks 10 (first_of (replace_by h l x) l) ≡ true
-hit-lacks hit.Not l x p q = p
-hit-lacks (hit.One w) l x p q = replace-lacks w.from w.to l x p q
+hit-lacks : (h : Option Span) (l x : List ℕ) → lacks 10 l ≡ true → lacks 10 x ≡ true → lacks 10 (first_of (replace_by h l x) l) ≡ true
+hit-lacks None l x p q = p
+hit-lacks (Some w) l x p q = replace-lacks w.from w.to l x p q
 
 taken-lacks : (above l : List ℕ) (k : Line) → lacks 10 above ≡ true → lacks 10 l ≡ true → lacks 10 (taken_by above k l) ≡ true
 unfolding text_of replace_reg

@@ -12,8 +12,9 @@ use Rattle.parse.specs.declared.Line.TheVariants as line
 use Rattle.place.specs.Blocks.{top}
 use Rattle.words.specs.Runs.{reads_of}
 use Rattle.words.specs.Hits.{reg_hit, replace_reg, replace_by}
-use Rattle.words.specs.declared.Hit.{Hit}
-use Rattle.words.specs.declared.Hit.TheVariants as hit
+use Rattle.std.specs.declared.option.Option.{Option}
+use Rattle.text.specs.declared.Span.{Span}
+use Rattle.std.specs.declared.option.Option.TheVariants.{Some, None}
 use Rattle.reading.specs.Reading.{Reading}
 use Rattle.reading.specs.Uses.{line_reads}
 use Rattle.once.specs.Once.{Spot, spots_of, lines_in, next_use, dropped_by, dropped, some, forward_by, forwards, once_act, once_go, next_run}
@@ -39,9 +40,9 @@ drops-is R d ls ps bs g h = go (parse_of d.line) refl
 
 -- ---- a line that goes into the next
 
-hit-some : (h : Hit) (l x : List ℕ) → has_hit h ≡ some (replace_by h l x)
-hit-some hit.Not l x = refl
-hit-some (hit.One w) l x = refl
+hit-some : (h : Option Span) (l x : List ℕ) → has_hit h ≡ some (replace_by h l x)
+hit-some None l x = refl
+hit-some (Some w) l x = refl
 
 replace-some : (v : ℕ) (l x : List ℕ) → has_hit (reg_hit v l) ≡ some (replace_reg v l x)
 unfolding replace_reg

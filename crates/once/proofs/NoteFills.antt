@@ -13,8 +13,9 @@ use Rattle.lines.specs.Inner.Lf.{line_start}
 use Rattle.lines.proofs.Tests.{no, and-false, and_left, and_right, and_both}
 use Rattle.lines.proofs.LfLaws.{lines_end}
 use Rattle.names.specs.Names.{reg_of, reg_is}
-use Rattle.names.specs.declared.RegName.{RegName}
-use Rattle.names.specs.declared.RegName.TheVariants as name
+use Rattle.std.specs.declared.option.Option.{Option}
+use Rattle.names.specs.declared.Register.{Register}
+use Rattle.std.specs.declared.option.Option.TheVariants.{Some, None}
 use Rattle.parse.specs.Parse.{parse_of, text_of}
 use Rattle.parse.specs.declared.Store.{Store}
 use Rattle.parse.specs.declared.Line.{Line}
@@ -45,21 +46,21 @@ known_some own d v h = go (ltb (slot_of (length d) own v) (length d)) refl
     go true e = ltb-true (slot_of (length d) own v) (length d) e
     go false e = let z = get_or-eq_default d 0 (ltb-false (slot_of (length d) own v) (length d) e) in absurd (omega arith)
 
-name-near : (own : List ℕ) (m v : ℕ) (r : RegName) (d : List ℕ) → Placed own v d → entry_of own v (mark_name own m r d) ≡ cond (reg_is v r) m (entry_of own v d)
-name-near own m v name.None d h = refl
-name-near own m v (name.Reg q) d h = entry-after own d q.0 m v h
+name-near : (own : List ℕ) (m v : ℕ) (r : Option Register) (d : List ℕ) → Placed own v d → entry_of own v (mark_name own m r d) ≡ cond (reg_is v r) m (entry_of own v d)
+name-near own m v None d h = refl
+name-near own m v (Some q) d h = entry-after own d q.0 m v h
 
-name-far : (own : List ℕ) (v : ℕ) (r : RegName) (n f : List ℕ) → Placed own v f → entry_of own v (far_name own r n f) ≡ cond (reg_is v r) (entry_of own v n) (entry_of own v f)
-name-far own v name.None n f h = refl
-name-far own v (name.Reg q) n f h = entry-after own f q.0 (entry_of own q.0 n) v h ∙ go (eqb q.0 v) refl
+name-far : (own : List ℕ) (v : ℕ) (r : Option Register) (n f : List ℕ) → Placed own v f → entry_of own v (far_name own r n f) ≡ cond (reg_is v r) (entry_of own v n) (entry_of own v f)
+name-far own v None n f h = refl
+name-far own v (Some q) n f h = entry-after own f q.0 (entry_of own q.0 n) v h ∙ go (eqb q.0 v) refl
   where
     go : (b : Bool) → eqb q.0 v ≡ b → cond b (entry_of own q.0 n) (entry_of own v f) ≡ cond b (entry_of own v n) (entry_of own v f)
     go true e = ap (λ (i : ℕ). entry_of own i n) (eqb-true q.0 v e)
     go false e = refl
 
-far-length : (own : List ℕ) (r : RegName) (n f : List ℕ) → length (far_name own r n f) ≡ length f
-far-length own name.None n f = refl
-far-length own (name.Reg q) n f = entry_length own f q.0 (entry_of own q.0 n)
+far-length : (own : List ℕ) (r : Option Register) (n f : List ℕ) → length (far_name own r n f) ≡ length f
+far-length own None n f = refl
+far-length own (Some q) n f = entry_length own f q.0 (entry_of own q.0 n)
 
 back-length : (c h r f : ℕ) (d : List ℕ) → length (back_by c h r f d) ≡ length d
 back-length c h r f d = go (ltb h r && ltb r f) (ltb c f) (eqb (get_or d (c - f) 0) 7)
@@ -70,9 +71,9 @@ back-length c h r f d = go (ltb h r && ltb r f) (ltb c f) (eqb (get_or d (c - f)
     go true false false = refl
     go false b e = refl
 
-notes-length : (own : List ℕ) (c h : ℕ) (r : RegName) (n f d : List ℕ) → length (back_name own c h r n f d) ≡ length d
-notes-length own c h name.None n f d = refl
-notes-length own c h (name.Reg q) n f d = back-length c h (entry_of own q.0 n) (entry_of own q.0 f) d
+notes-length : (own : List ℕ) (c h : ℕ) (r : Option Register) (n f d : List ℕ) → length (back_name own c h r n f d) ≡ length d
+notes-length own c h None n f d = refl
+notes-length own c h (Some q) n f d = back-length c h (entry_of own q.0 n) (entry_of own q.0 f) d
 
 -- the runs of a text that name register v
 named : ℕ → List (List ℕ) → ℕ
@@ -236,9 +237,9 @@ notes-back us ps c h r f d n = go (ltb h r && ltb r f) (ltb c f) (eqb (get_or d 
     go true false false e = n
     go false b t e = n
 
-notes-name : (us : List (List ℕ)) (ps own : List ℕ) (c h : ℕ) (r : RegName) (n f d : List ℕ) → NotesOf us ps d → NotesOf us ps (back_name own c h r n f d)
-notes-name us ps own c h name.None n f d k = k
-notes-name us ps own c h (name.Reg q) n f d k = notes-back us ps c h (entry_of own q.0 n) (entry_of own q.0 f) d k
+notes-name : (us : List (List ℕ)) (ps own : List ℕ) (c h : ℕ) (r : Option Register) (n f d : List ℕ) → NotesOf us ps d → NotesOf us ps (back_name own c h r n f d)
+notes-name us ps own c h None n f d k = k
+notes-name us ps own c h (Some q) n f d k = notes-back us ps c h (entry_of own q.0 n) (entry_of own q.0 f) d k
 
 notes-runs : (us : List (List ℕ)) (ps own : List ℕ) (c h m : ℕ) (rs : List (List ℕ)) (d : Reads) → NotesOf us ps d.1.1 → NotesOf us ps (read_runs own c h m rs d).1.1
 unfolding read_runs
@@ -262,9 +263,9 @@ back-keeps c h r f k d = go (ltb h r && ltb r f) (ltb c f) (eqb (get_or d i 0) 7
     go true false false e q = q
     go false b t e q = q
 
-name-keeps : (own : List ℕ) (c h k : ℕ) (r : RegName) (n f d : List ℕ) → get_or (back_name own c h r n f d) k 0 ≡ 7 → get_or d k 0 ≡ 7
-name-keeps own c h k name.None n f d q = q
-name-keeps own c h k (name.Reg v) n f d q = back-keeps c h (entry_of own v.0 n) (entry_of own v.0 f) k d q
+name-keeps : (own : List ℕ) (c h k : ℕ) (r : Option Register) (n f d : List ℕ) → get_or (back_name own c h r n f d) k 0 ≡ 7 → get_or d k 0 ≡ 7
+name-keeps own c h k None n f d q = q
+name-keeps own c h k (Some v) n f d q = back-keeps c h (entry_of own v.0 n) (entry_of own v.0 f) k d q
 
 runs-keep : (own : List ℕ) (c h m k : ℕ) (rs : List (List ℕ)) (d : Reads) → get_or (read_runs own c h m rs d).1.1 k 0 ≡ 7 → get_or d.1.1 k 0 ≡ 7
 unfolding read_runs
@@ -287,9 +288,9 @@ module _ (own : List ℕ) (c h r k : ℕ) (a : h < r) (z : k + suc r ≡ c) wher
       go true e q = put (ltb k (length d)) refl (eqb-true (get_or d k 0) 7 e) q
       go false e q = eqb-false (get_or d k 0) 7 e q
 
-  name-takes : (v : ℕ) (w : RegName) (n f d : List ℕ) → entry_of own v n ≡ r → entry_of own v f ≡ suc r → reg_is v w ≡ true → get_or (back_name own c h w n f d) k 0 ≡ 7 → ⊥
-  name-takes v name.None n f d e g i q = no i
-  name-takes v (name.Reg u) n f d e g i q =
+  name-takes : (v : ℕ) (w : Option Register) (n f d : List ℕ) → entry_of own v n ≡ r → entry_of own v f ≡ suc r → reg_is v w ≡ true → get_or (back_name own c h w n f d) k 0 ≡ 7 → ⊥
+  name-takes v None n f d e g i q = no i
+  name-takes v (Some u) n f d e g i q =
       let x : entry_of own u.0 n ≡ r = ap (λ (j : ℕ). entry_of own j n) (eqb-true u.0 v i) ∙ e in
       let y : entry_of own u.0 f ≡ suc r = ap (λ (j : ℕ). entry_of own j f) (eqb-true u.0 v i) ∙ g in
       back-takes d (ap (λ (j : ℕ). get_or (back_by c h r j d) k 0) (sym y) ∙ ap (λ (j : ℕ). get_or (back_by c h j (entry_of own u.0 f) d) k 0) (sym x) ∙ q)
@@ -314,10 +315,10 @@ data Took (own : List ℕ) (c h k : ℕ) (rs : List (List ℕ)) (d : Reads) : Ty
   took : (v : ℕ) → Placed own v d.0 → 0 < named v rs → h < entry_of own v d.0 → entry_of own v d.0 < entry_of own v d.1.0 → k + entry_of own v d.1.0 ≡ c → Took own c h k rs d
 
 module _ (own : List ℕ) (c h k : ℕ) where
-  name-took : {A : Type 0} (w : RegName) (n f d : List ℕ) → get_or (back_name own c h w n f d) k 0 ≡ 4 → (get_or d k 0 ≡ 4 → A) →
+  name-took : {A : Type 0} (w : Option Register) (n f d : List ℕ) → get_or (back_name own c h w n f d) k 0 ≡ 4 → (get_or d k 0 ≡ 4 → A) →
       ((v : ℕ) → reg_is v w ≡ true → h < entry_of own v n → entry_of own v n < entry_of own v f → k + entry_of own v f ≡ c → A) → A
-  name-took name.None n f d q s t = s q
-  name-took {A} (name.Reg u) n f d q s t = go (ltb h r && ltb r g) refl (ltb c g) refl (eqb (get_or d i 0) 7) q
+  name-took None n f d q s t = s q
+  name-took {A} (Some u) n f d q s t = go (ltb h r && ltb r g) refl (ltb c g) refl (eqb (get_or d i 0) 7) q
     where
       r : ℕ
       r = entry_of own u.0 n
@@ -760,7 +761,7 @@ module _ (own : List ℕ) (c h m : ℕ) where
 
   -- one that begins with another byte names no register
   reads_other : (x : ℕ) (cur : List ℕ) (d : Reads) → eqb x 114 ≡ false → read_step (x ∷ cur) d ≡ d
-  reads_other x cur d e = ap (λ (r : RegName). read_name own c h m r d) (reg-first (x ∷ cur) (eqb-false x 114 e))
+  reads_other x cur d e = ap (λ (r : Option Register). read_name own c h m r d) (reg-first (x ∷ cur) (eqb-false x 114 e))
 
   reads-empty : (d : Reads) → read_runs own c h m [] d ≡ d
   unfolding read_runs

@@ -15,8 +15,8 @@ use Rattle.parse.specs.declared.Line.TheVariants as line
 use Rattle.parse.specs.declared.Store.{Store}
 use Rattle.place.specs.Region.{region}
 use Rattle.words.specs.Hits.{reg_hit, glue_left, glue_right, glued, replaced_at, replace_by, replace_reg}
-use Rattle.words.specs.declared.Hit.{Hit}
-use Rattle.words.specs.declared.Hit.TheVariants as hit
+use Rattle.std.specs.declared.option.Option.{Option}
+use Rattle.std.specs.declared.option.Option.TheVariants.{Some, None}
 use Rattle.reading.specs.Reading.{Reading, pure_in}
 use Rattle.reading.specs.Uses.{line_reads, line_stores}
 use Rattle.once.specs.Scratch.{scratch_at}
@@ -91,7 +91,7 @@ pub record Taken (R : Reading) (d e : Spot) (below : List Spot) (x : List ℕ) :
   pub read-once : line_reads store.reg.0 e.line ≡ 1
   pub unread : later_read store.reg.0 (lines_in below) ≡ false
   pub span : Span
-  pub found : reg_hit store.reg.0 e.line ≡ hit.One span
+  pub found : reg_hit store.reg.0 e.line ≡ Some span
   pub is : x ≡ replaced_at span.from span.to e.line (text_of d.line (line.Store store))
   pub before : List ℕ
   pub behind : List ℕ
@@ -121,16 +121,16 @@ within from to l rep = go (glue_left (take from l) rep || glue_right rep (drop t
 -- that there is a line says where the one hit stands
 record Found (v : ℕ) (l x : List ℕ) : Type 0 where
   pub span : Span
-  pub at : reg_hit v l ≡ hit.One span
+  pub at : reg_hit v l ≡ Some span
   pub is : first_of (replace_reg v l x) l ≡ replaced_at span.from span.to l x
 
 found-one : (v : ℕ) (l x : List ℕ) → some (replace_reg v l x) ≡ true → Found v l x
 unfolding replace_reg
 found-one v l x h = go (reg_hit v l) refl h
   where
-    go : (k : Hit) → reg_hit v l ≡ k → some (replace_by k l x) ≡ true → Found v l x
-    go hit.Not q e = no e
-    go (hit.One w) q e = record { span = w; at = q; is = ap (λ (z : Hit). first_of (replace_by z l x) l) q }
+    go : (k : Option Span) → reg_hit v l ≡ k → some (replace_by k l x) ≡ true → Found v l x
+    go None q e = no e
+    go (Some w) q e = record { span = w; at = q; is = ap (λ (z : Option Span). first_of (replace_by z l x) l) q }
 
 -- what a line that goes into the next says of the two
 record Forward (R : Reading) (run : List (List ℕ)) (d e : Spot) (below : List Spot) : Type 0 where

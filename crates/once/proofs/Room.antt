@@ -20,8 +20,8 @@ use Rattle.place.specs.Loops.{inside_loop}
 use Rattle.place.proofs.Paths.{length-tops}
 use Rattle.place.proofs.Nests.{length-loops}
 use Rattle.words.specs.Hits.{reg_hit, glue_left, glue_right, glued, replaced_at, replace_by, replace_reg}
-use Rattle.words.specs.declared.Hit.{Hit}
-use Rattle.words.specs.declared.Hit.TheVariants as hit
+use Rattle.std.specs.declared.option.Option.{Option}
+use Rattle.std.specs.declared.option.Option.TheVariants.{Some, None}
 use Rattle.words.proofs.Places.{hit-stands, around}
 use Rattle.weight.specs.Inner.Weight.{weight}
 use Rattle.weight.proofs.Weigh.{weight-take, weight-rest}
@@ -41,7 +41,7 @@ due-credit k [] = omega arith
 due-credit k (d ∷ ds) = omega arith
 
 module _ (H : ℕ) where
-  replaced-weight : (v : ℕ) (l rep : List ℕ) (w : Span) → reg_hit v l ≡ hit.One w → weight H (replaced_at w.from w.to l rep) ≤ weight H l + weight H rep
+  replaced-weight : (v : ℕ) (l rep : List ℕ) (w : Span) → reg_hit v l ≡ Some w → weight H (replaced_at w.from w.to l rep) ≤ weight H l + weight H rep
   unfolding replaced_at
   replaced-weight v l rep w e =
       let g : Bool = glue_left (take w.from l) rep || glue_right rep (drop w.to l) in
@@ -51,9 +51,9 @@ module _ (H : ℕ) where
       let m = absorb-le H g (take w.from l) (reg_text v) rep (drop w.to l) (not-spaced v) (omega (arith, decimal-long v)) in
       omega (arith, ap (weight H) a, m, sym (ap (weight H) (around l v w (hit-stands v l w e))))
 
-  hit-weight : (v : ℕ) (l rep : List ℕ) (h : Hit) → reg_hit v l ≡ h → weight H (first_of (replace_by h l rep) l) ≤ weight H l + weight H rep
-  hit-weight v l rep hit.Not e = omega arith
-  hit-weight v l rep (hit.One w) e = replaced-weight v l rep w e
+  hit-weight : (v : ℕ) (l rep : List ℕ) (h : Option Span) → reg_hit v l ≡ h → weight H (first_of (replace_by h l rep) l) ≤ weight H l + weight H rep
+  hit-weight v l rep None e = omega arith
+  hit-weight v l rep (Some w) e = replaced-weight v l rep w e
 
   -- a line that takes the value of the line above grows by no more than that line weighs
   taken-weight : (above l : List ℕ) (k : Line) → weight H (taken_by above k l) ≤ weight H l + weight H above

@@ -13,7 +13,7 @@ use Rattle.lines.proofs.Tests.{no, and_left, and_right, and_both, and-true, and-
 use Rattle.lines.proofs.LfLaws.{rest_of, lines-at, lines_end}
 use Rattle.lines.proofs.Compare.{hold-end}
 use Rattle.names.specs.Names.{reg_of, is_ident, is_digit, all_names}
-use Rattle.names.specs.declared.RegName.TheVariants as name
+use Rattle.std.specs.declared.option.Option.TheVariants.{Some, None}
 use Rattle.text.specs.Class.{is_name}
 use Rattle.parse.specs.Parse.{parse_of, text_of}
 use Rattle.parse.specs.declared.Line.{Line}
@@ -89,7 +89,7 @@ unfolding is_ident
 ident-names [] h = no h
 ident-names (x ∷ p) h = and_both (and_left (is_name x) (not (is_digit x)) (and_left _ (all_names p) h)) (and_right (is_name x && not (is_digit x)) (all_names p) h)
 
-pub changes-name : (obj l t : List ℕ) (p : Line) → is_ident obj ≡ true → p ≡ parse_of l → t ≡ text_of l p → reg_of obj ≡ name.None → ltb 0 (words_of obj t) ≡ changes_by (reg_of obj) obj l
+pub changes-name : (obj l t : List ℕ) (p : Line) → is_ident obj ≡ true → p ≡ parse_of l → t ≡ text_of l p → reg_of obj ≡ None → ltb 0 (words_of obj t) ≡ changes_by (reg_of obj) obj l
 changes-name obj l t p h q e n =
     rw (n, e, q)
     (ap (λ (k : ℕ). ltb 0 k) (sym (hits-words obj (ident-some obj h) (ident-names obj h) (text_of l (parse_of l)))))

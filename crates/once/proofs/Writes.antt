@@ -23,7 +23,7 @@ use Rattle.parse.specs.declared.Line.TheVariants as line
 use Rattle.parse.specs.declared.Store.{Store}
 use Rattle.text.specs.declared.Span.{Span}
 use Rattle.words.specs.Hits.{reg_hit, replace_reg, replaced_at}
-use Rattle.words.specs.declared.Hit.TheVariants as hit
+use Rattle.std.specs.declared.option.Option.TheVariants.{Some, None}
 use Rattle.once.specs.Once.{first_of, taken_by}
 use Rattle.once.specs.Inner.Tables.{sends, act_by, acts_by}
 
@@ -44,11 +44,11 @@ line-long l = length-append l (10 ∷ [])
 -- ---- a line with a value in it
 
 module _ (v : ℕ) (l x : List ℕ) where
-  pub into_one : (w : Span) → reg_hit v l ≡ hit.One w → unlines (replaced_at w.from w.to l x ∷ []) ≡ unlines (first_of (replace_reg v l x) l ∷ [])
+  pub into_one : (w : Span) → reg_hit v l ≡ Some w → unlines (replaced_at w.from w.to l x ∷ []) ≡ unlines (first_of (replace_reg v l x) l ∷ [])
   unfolding replace_reg
   into_one w e = rw e
 
-  pub into-not : reg_hit v l ≡ hit.Not → unlines (l ∷ []) ≡ unlines (first_of (replace_reg v l x) l ∷ [])
+  pub into-not : reg_hit v l ≡ None → unlines (l ∷ []) ≡ unlines (first_of (replace_reg v l x) l ∷ [])
   unfolding replace_reg
   into-not e = rw e
 

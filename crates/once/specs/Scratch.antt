@@ -4,8 +4,9 @@ use Prim.Native.Char.{code}
 use Rattle.lines.specs.Ascii.{ascii}
 use Rattle.lines.specs.Lf.{up_to, holds}
 use Rattle.names.specs.Names.{reg_of, is_ident}
-use Rattle.names.specs.declared.RegName.{RegName}
-use Rattle.names.specs.declared.RegName.TheVariants as name
+use Rattle.std.specs.declared.option.Option.{Option}
+use Rattle.names.specs.declared.Register.{Register}
+use Rattle.std.specs.declared.option.Option.TheVariants.{Some, None}
 use Rattle.parse.specs.Parse.{parse_of, text_of}
 use Rattle.place.specs.Region.{is_header}
 use Rattle.words.specs.Hits.{hits}
@@ -30,9 +31,9 @@ live_below v (l ∷ ls) =
     cond (is_header l) false on
 
 -- a line changes the object: it stores the register that the object is, or mentions the name that it is
-abbrev pub changes_by : RegName → List ℕ → List ℕ → Bool
-changes_by (name.Reg q) obj l = line_stores q.0 l
-changes_by name.None obj l = ltb 0 (length (hits obj (text_of l (parse_of l))))
+abbrev pub changes_by : Option Register → List ℕ → List ℕ → Bool
+changes_by (Some q) obj l = line_stores q.0 l
+changes_by None obj l = ltb 0 (length (hits obj (text_of l (parse_of l))))
 
 -- the first line that holds the call `A.B(` comes before any line that changes the object
 unfoldable pub called_below : List ℕ → List (List ℕ) → Bool

@@ -145,11 +145,11 @@ fn changes(line: &[u8], obj: &[u8]) -> bool
     ensures { result ≡ changes_by (reg_of obj.now) obj.now line.now }
 {
     match names::reg_name(obj) {
-        names::RegName::Reg(q) => {
+        Some(q) => {
             let u = reading::use_of(line, q);
             u.stores
         }
-        names::RegName::None => {
+        None => {
             let p = parse::parse(line);
             0 < words::count_word(parse::text_of(line, p), obj)
         }
@@ -321,8 +321,8 @@ fn takes(line: &[u8], reg: names::Register) -> bool
     ensures { result ≡ has_hit (reg_hit reg.0 line.now) }
 {
     match words::find_reg(line, reg) {
-        words::Hit::One(w) => true,
-        words::Hit::Not => false,
+        Some(w) => true,
+        None => false,
     }
 }
 
@@ -673,11 +673,11 @@ fn put_into(line: &[u8], reg: names::Register, x: &[u8], out: &mut [u8], o: usiz
     ensures { Wrote out.old o (unlines (first_of (replace_reg reg.0 line.now x.now) line.now ∷ [])) out.new result }
 {
     match words::find_reg(line, reg) {
-        words::Hit::One(w) => {
+        Some(w) => {
             let p = words::put_replaced(line, w, x, out, o);
             lines::put_byte(out, p, 10)
         }
-        words::Hit::Not => lines::put_line(out, o, line),
+        None => lines::put_line(out, o, line),
     }
 }
 

@@ -115,8 +115,8 @@ fn note_name(
     ensures notes { notes.new ≡ back_name own.now n h (reg_of t.now) near.old far.old notes.old }
 {
     match names::reg_name(t) {
-        names::RegName::Reg(q) => note_read(q, own, m, h, n, near, far, notes),
-        names::RegName::None => {}
+        Some(q) => note_read(q, own, m, h, n, near, far, notes),
+        None => {}
     }
 }
 

@@ -7,7 +7,7 @@ use native.Mathlib.Omega.{arith}
 use borrow.Author.Tests.{eqb-true, eqb-false, lt-ltb, le-ltb}
 use lib.Dec.{eqb}
 use lib.ListN.{length, take, drop, replicate, length-append}
-use Rattle.lines.specs.declared.Crowded.TheVariants as crowd-is
+use Rattle.std.specs.declared.option.Option.TheVariants.{Some, None}
 use Rattle.lines.specs.Lf.{ends_in, unlines, count_of, within}
 use Rattle.lines.specs.Inner.Lf.{no_lf}
 use Rattle.lines.specs.Steps.{drop_cr, split_lines, joined, over_from}
@@ -161,11 +161,11 @@ pub wide-edge : (is_wide form.Ol 65535 ≡ false) × ((is_wide form.Ol 65536 ≡
 wide-edge = (refl, (refl, refl))
 
 -- 64 brackets on a line pass, 65 do not
-pub brackets-edge : over_from 64 91 0 (replicate 64 91 ∷ []) ≡ crowd-is.Nowhere
+pub brackets-edge : over_from 64 91 0 (replicate 64 91 ∷ []) ≡ None
 unfolding over_from count_of
 brackets-edge = refl
 
-pub brackets-over : over_from 64 91 0 ([] ∷ replicate 65 91 ∷ []) ≡ crowd-is.At 1
+pub brackets-over : over_from 64 91 0 ([] ∷ replicate 65 91 ∷ []) ≡ Some 1
 unfolding over_from count_of
 brackets-over = refl
 

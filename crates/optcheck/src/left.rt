@@ -71,14 +71,14 @@ pub enum Missing {
 // Whether a name of a line is that of a register that the region uses and the line `p` declares less often.
 fn is_missing(name: &[u8], line: &[u8], region: &[u8], p: &[u8]) -> Missing {
     match names::reg_name(name) {
-        names::RegName::Reg(q) => {
+        Some(q) => {
             if reading::uses(region, q) & (times_declared(p, q) < times_declared(line, q)) {
                 Missing::Reg(q)
             } else {
                 Missing::None
             }
         }
-        names::RegName::None => Missing::None,
+        None => Missing::None,
     }
 }
 

@@ -9,8 +9,9 @@ use lib.Dec.{eqb, ltb}
 use lib.ListN.{length, take, drop, get_or, length-take, length-drop}
 use Rattle.text.specs.Trim.{from_of, to_of, to_end, trim_of}
 use Rattle.names.specs.Names.{reg_of, is_reg}
-use Rattle.names.specs.declared.RegName.{RegName}
-use Rattle.names.specs.declared.RegName.TheVariants as name
+use Rattle.std.specs.declared.option.Option.{Option}
+use Rattle.names.specs.declared.Register.{Register}
+use Rattle.std.specs.declared.option.Option.TheVariants.{Some, None}
 use Rattle.text.proofs.Trims.{from_of-le, to_end-le, trim-part}
 use Rattle.parse.specs.declared.Store.{Store}
 use Rattle.parse.specs.declared.Line.{Line}
@@ -49,7 +50,7 @@ module _ (a : ℕ) (u : List ℕ) (k : ℕ) (q' : k ≡ 0 + up_to 61 u) where
   pub store-eq : k < length u → get_or u (k + 1) 0 ≡ 61 → split_store a u ≡ line.Other
   store-eq h e = let q : k ≡ up_to 61 u = omega arith in rw (← q, lt-ltb k (length u) h, eq-eqb (get_or u (k + 1) 0) 61 e)
 
-  pub store-reg : k < length u → (get_or u (k + 1) 0 ≡ 61 → ⊥) → (r : RegName) → r ≡ reg_of (trim_of (take k u)) → split_store a u ≡ store_by r (a + (k + 1)) (drop (k + 1) u)
+  pub store-reg : k < length u → (get_or u (k + 1) 0 ≡ 61 → ⊥) → (r : Option Register) → r ≡ reg_of (trim_of (take k u)) → split_store a u ≡ store_by r (a + (k + 1)) (drop (k + 1) u)
   store-reg h n r e = let q : k ≡ up_to 61 u = omega arith in rw (← q, lt-ltb k (length u) h, ne_eqb (get_or u (k + 1) 0) 61 n, ← e)
 
 -- the bounds of what is trimmed out of a rest
@@ -85,9 +86,9 @@ never h = let z : ◌≡◌ {A = ℕ} 0 1 = cc in absurd (omega arith)
 never-decl : {A : Type 0} {s : Store} → line.Decl ≡ line.Store s → A
 never-decl h = let z : ◌≡◌ {A = ℕ} 0 1 = cc in absurd (omega arith)
 
-place-by : (r : RegName) (b : ℕ) (rhs : List ℕ) (s : Store) → store_by r b rhs ≡ line.Store s → (s.from ≤ s.to) × (s.to ≤ b + length rhs)
-place-by name.None b rhs s h = never h
-place-by (name.Reg q) b rhs s h =
+place-by : (r : Option Register) (b : ℕ) (rhs : List ℕ) (s : Store) → store_by r b rhs ≡ line.Store s → (s.from ≤ s.to) × (s.to ≤ b + length rhs)
+place-by None b rhs s h = never h
+place-by (Some q) b rhs s h =
     let e : ◌≡◌ {A = Store} s (record { reg = q; from = b + from_of rhs; to = b + to_end rhs }) = cc in
     let f : s.from ≡ b + from_of rhs = ap (λ (x : Store). x.from) e in
     let t : s.to ≡ b + to_end rhs = ap (λ (x : Store). x.to) e in

@@ -17,7 +17,7 @@ use Rattle.text.specs.White.{is_white}
 use Rattle.text.specs.Utf8Form.{seq_len}
 use Rattle.text.proofs.Trims.{front-told, back-told}
 use Rattle.names.specs.Names.{is_digit, all_digits, value, reg_by, reg_of, is_reg}
-use Rattle.names.specs.declared.Number.{Number}
+use Rattle.std.specs.declared.option.Option.{Option}
 use Rattle.names.proofs.Digits.{number-is}
 use Rattle.names.proofs.Decimal.{value-lt}
 use Rattle.parse.specs.Inner.Parse.{digits_len, short_reg, plain_byte}
@@ -158,7 +158,7 @@ unfolding reg_of prefixed
 name-reg ds e h k =
     let p : 10 ^ length ds ≤ 10 ^ 9 = pow-le-pow_right (omega arith) k in
     let v : value 0 ds < 2 ^ 64 = omega (arith, value-lt ds 0 e) in
-    ap (λ (n : Number). is_reg (reg_by n)) (number-is ds h e v)
+    ap (λ (n : Option ℕ). is_reg (reg_by n)) (number-is ds h e v)
 
 module _ (l : List ℕ) (h : 1 ≤ digits_len l) (k : digits_len l ≤ 9) (c : digits_len l < length l → get_or l (digits_len l) 0 ≡ 44) where
   name-up : up_to 44 (114 ∷ l) ≡ suc (digits_len l)

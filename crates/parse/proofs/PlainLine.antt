@@ -15,8 +15,8 @@ use Rattle.text.specs.Trim.{lead, from_of, end_white, to_of, to_end, trim_start,
 use Rattle.text.proofs.Trims.{from_of-le, to_of-le, front-space, front-told, back-space, back-told}
 use Rattle.names.specs.Names.{is_digit, is_reg, numbered, read_number, reg_of}
 use Rattle.names.specs.declared.Register.{Register}
-use Rattle.names.specs.declared.RegName.{RegName}
-use Rattle.names.specs.declared.RegName.TheVariants as name
+use Rattle.std.specs.declared.option.Option.{Option}
+use Rattle.std.specs.declared.option.Option.TheVariants.{Some, None}
 use Rattle.names.proofs.Texts.{reg-first}
 use Rattle.parse.specs.declared.Line.TheVariants as line
 use Rattle.parse.specs.Parse.{is_decl, store_by, split_store, store_in, parse_of}
@@ -47,11 +47,11 @@ decl-other l a p n =
 
 -- ---- a line that begins with c, and then with r: of what is taken from it nothing names a register
 
-empty-none : reg_of (trim_of []) ≡ name.None
+empty-none : reg_of (trim_of []) ≡ None
 unfolding reg_of prefixed trim_of from_of to_of lead end_white
 empty-none = refl
 
-module _ (c : ℕ) (r : List ℕ) (none : (k m x : ℕ) → reg_of (trim_of (take k (take m (take x (c ∷ r))))) ≡ name.None) where
+module _ (c : ℕ) (r : List ℕ) (none : (k m x : ℕ) → reg_of (trim_of (take k (take m (take x (c ∷ r))))) ≡ None) where
   store-none-of : (b x : ℕ) → store_in b (take x (c ∷ r)) ≡ line.Other
   unfolding store_in
   store-none-of b x = go (ends_in 59 (take x (c ∷ r)))
@@ -60,7 +60,7 @@ module _ (c : ℕ) (r : List ℕ) (none : (k m x : ℕ) → reg_of (trim_of (tak
       u = take (length (take x (c ∷ r)) - 1) (take x (c ∷ r))
 
       by : (g : Bool) → cond g (store_by (reg_of (trim_of (take (up_to 61 u) u))) (b + (up_to 61 u + 1)) (drop (up_to 61 u + 1) u)) line.Other ≡ line.Other
-      by true = ap (λ (k : RegName). store_by k (b + (up_to 61 u + 1)) (drop (up_to 61 u + 1) u)) (none (up_to 61 u) (length (take x (c ∷ r)) - 1) x)
+      by true = ap (λ (k : Option Register). store_by k (b + (up_to 61 u + 1)) (drop (up_to 61 u + 1) u)) (none (up_to 61 u) (length (take x (c ∷ r)) - 1) x)
       by false = refl
 
       go : (w : Bool) → cond w (split_store b u) line.Other ≡ line.Other
@@ -84,10 +84,10 @@ trim-other c b t z n y e =
     first_taken b z (to_of (trim_start y)) (trim_start y) (λ h. n (sym e ∙ ap (λ (k : ℕ). get_or (drop k y) 0 0) (starts-plain y (ap (λ (x : ℕ). plain_byte x) e ∙ t)) ∙ h))
 
 module _ (c : ℕ) (t : plain_byte c ≡ true) (n : c ≡ 114 → ⊥) where
-  trim-none : (y : List ℕ) → get_or y 0 0 ≡ c → reg_of (trim_of y) ≡ name.None
+  trim-none : (y : List ℕ) → get_or y 0 0 ≡ c → reg_of (trim_of y) ≡ None
   trim-none y e = reg-first (trim_of y) (trim-other c 114 t (λ z. absurd (omega arith)) n y e)
 
-  pub taken_none : (r : List ℕ) (k m x : ℕ) → reg_of (trim_of (take k (take m (take x (c ∷ r))))) ≡ name.None
+  pub taken_none : (r : List ℕ) (k m x : ℕ) → reg_of (trim_of (take k (take m (take x (c ∷ r))))) ≡ None
   taken_none r zero m x = empty-none
   taken_none r (suc k) zero x = empty-none
   taken_none r (suc k) (suc m) zero = empty-none
@@ -102,14 +102,14 @@ module _ (c : ℕ) (t : plain_byte c ≡ true) (n : c ≡ 114 → ⊥) where
 -- ---- a line that begins with `r` and no digit behind it
 
 -- what is taken from such a text names no register
-pub bare-none : (n : ℕ) (l : List ℕ) → is_digit (get_or l 0 0) ≡ false → reg_of (take n (114 ∷ l)) ≡ name.None
+pub bare-none : (n : ℕ) (l : List ℕ) → is_digit (get_or l 0 0) ≡ false → reg_of (take n (114 ∷ l)) ≡ None
 unfolding reg_of prefixed read_number numbered
 bare-none zero l e = refl
 bare-none (suc zero) l e = refl
 bare-none (suc (suc n)) [] e = refl
 bare-none (suc (suc n)) (x ∷ l) e = rw e
 
-bare-trim : (w : List ℕ) → is_digit (get_or w 0 0) ≡ false → reg_of (trim_of (114 ∷ w)) ≡ name.None
+bare-trim : (w : List ℕ) → is_digit (get_or w 0 0) ≡ false → reg_of (trim_of (114 ∷ w)) ≡ None
 unfolding trim_of
 bare-trim w e = ap (λ (k : ℕ). reg_of (take (to_of (drop k (114 ∷ w))) (drop k (114 ∷ w)))) (sym (starts-plain (114 ∷ w) refl)) ∙ bare-none (to_of (114 ∷ w)) w e
 
@@ -118,7 +118,7 @@ digit-taken zero l e = refl
 digit-taken (suc n) [] e = refl
 digit-taken (suc n) (x ∷ l) e = e
 
-bare-taken : (r : List ℕ) → is_digit (get_or r 0 0) ≡ false → (k m x : ℕ) → reg_of (trim_of (take k (take m (take x (114 ∷ r))))) ≡ name.None
+bare-taken : (r : List ℕ) → is_digit (get_or r 0 0) ≡ false → (k m x : ℕ) → reg_of (trim_of (take k (take m (take x (114 ∷ r))))) ≡ None
 bare-taken r e zero m x = empty-none
 bare-taken r e (suc k) zero x = empty-none
 bare-taken r e (suc k) (suc m) zero = empty-none
@@ -313,13 +313,13 @@ module _ (l : List ℕ) (a e : ℕ) (p : a ≡ from_of l) (r : get_or l a 0 ≡ 
       spaced-end rhs rhs-two rhs-gap rhs-first
       (ap (λ (b : ℕ). plain_byte b) (rhs-at (length rhs - 1) (length l - 2) (omega (arith, v.room)) (omega (arith, rhs-long, v.room))) ∙ v.last)
 
-  store_is : (g : Register) → name.Reg g ≡ reg_of (part a e l) → line.Store (record { reg = g; from = e + 3; to = length l - 1 }) ≡ parse_of l
+  store_is : (g : Register) → Some g ≡ reg_of (part a e l) → line.Store (record { reg = g; from = e + 3; to = length l - 1 }) ≡ parse_of l
   unfolding parse_of store_in
   store_is g y =
       let f : a + (k + 1) + from_of rhs ≡ e + 3 = omega (arith, value-from) in
       let t : a + (k + 1) + to_end rhs ≡ length l - 1 = omega (arith, value-to, rhs-long, v.room) in
-      let s : split_store a u ≡ store_by (name.Reg g) (a + (k + 1)) rhs =
-      store-reg a u k found (omega (arith, u-long, v.room)) (λ z. absurd (omega (arith, u-at (k + 1) (e + 2) (omega (arith, v.room)) (omega arith), v.next))) (name.Reg g) (y ∙ ap reg_of (sym left)) in
+      let s : split_store a u ≡ store_by (Some g) (a + (k + 1)) rhs =
+      store-reg a u k found (omega (arith, u-long, v.room)) (λ z. absurd (omega (arith, u-at (k + 1) (e + 2) (omega (arith, v.room)) (omega arith), v.next))) (Some g) (y ∙ ap reg_of (sym left)) in
       sym
       (ap (λ (b : Bool). cond b line.Decl (store_in (from_of l) (trim_of l))) (decl-other l a p (λ z. absurd (omega arith)))
       ∙ ap (λ (n : ℕ). store_in n (trim_of l)) (sym p)
@@ -330,17 +330,17 @@ module _ (l : List ℕ) (a e : ℕ) (p : a ≡ from_of l) (r : get_or l a 0 ≡ 
       ∙ ap (λ (n : ℕ). line.Store (record { reg = g; from = e + 3; to = n })) t)
 
 pub plain-store : (l : List ℕ) (a e : ℕ) → a ≡ from_of l → get_or l a 0 ≡ 114 → e ≡ a + 1 + digits_len (drop (a + 1) l) → plain_value e l ≡ true →
-    (g : Register) → name.Reg g ≡ reg_of (part a e l) → line.Store (record { reg = g; from = e + 3; to = length l - 1 }) ≡ parse_of l
+    (g : Register) → Some g ≡ reg_of (part a e l) → line.Store (record { reg = g; from = e + 3; to = length l - 1 }) ≡ parse_of l
 plain-store l a e p r q v g y = store_is l a e p r q (value-at e l v) g y
 
 -- what is told of a line where its register is read only if it is plainly a store
-module _ (l : List ℕ) (a e : ℕ) (g : Register) (y : name.Reg g ≡ cond (plain_value e l) (reg_of (part a e l)) name.None) where
-  told-both : (plain_value e l ≡ true) × (name.Reg g ≡ reg_of (part a e l))
+module _ (l : List ℕ) (a e : ℕ) (g : Register) (y : Some g ≡ cond (plain_value e l) (reg_of (part a e l)) None) where
+  told-both : (plain_value e l ≡ true) × (Some g ≡ reg_of (part a e l))
   told-both = go (plain_value e l) refl
     where
-      go : (b : Bool) → plain_value e l ≡ b → (plain_value e l ≡ true) × (name.Reg g ≡ reg_of (part a e l))
-      go true p = (p, y ∙ ap (λ (b : Bool). cond b (reg_of (part a e l)) name.None) p)
-      go false p = no (sym (ap is_reg (y ∙ ap (λ (b : Bool). cond b (reg_of (part a e l)) name.None) p)))
+      go : (b : Bool) → plain_value e l ≡ b → (plain_value e l ≡ true) × (Some g ≡ reg_of (part a e l))
+      go true p = (p, y ∙ ap (λ (b : Bool). cond b (reg_of (part a e l)) None) p)
+      go false p = no (sym (ap is_reg (y ∙ ap (λ (b : Bool). cond b (reg_of (part a e l)) None) p)))
 
   pub told-room : e + 5 ≤ length l
   told-room = value_room e l told-both.0

@@ -5,8 +5,9 @@ use Rattle.lines.specs.Ascii.{ascii}
 use Rattle.lines.specs.Lf.{part, up_to, parts_of, prefixed, ends_in}
 use Rattle.text.specs.Trim.{from_of, to_end, trim_of}
 use Rattle.names.specs.Names.{reg_of, is_reg}
-use Rattle.names.specs.declared.RegName.{RegName}
-use Rattle.names.specs.declared.RegName.TheVariants as name
+use Rattle.std.specs.declared.option.Option.{Option}
+use Rattle.names.specs.declared.Register.{Register}
+use Rattle.std.specs.declared.option.Option.TheVariants.{Some, None}
 use Rattle.parse.specs.declared.Line.{Line}
 use Rattle.parse.specs.declared.Line.TheVariants as line
 
@@ -37,9 +38,9 @@ is_decl t = ltb 4 (length t) && (prefixed let_word t && (ends_in (code ";") t &&
 
 -- a store of the register that the left side names, where it names one; the right side begins at the place b.
 -- (That the left side is not empty and does not end in `!`, `<`, `>` or `=`, which the Rust tests too, follows from its being a register.)
-abbrev pub store_by : RegName → ℕ → List ℕ → Line
-store_by name.None b rhs = line.Other
-store_by (name.Reg q) b rhs = line.Store (record { reg = q; from = b + from_of rhs; to = b + to_end rhs })
+abbrev pub store_by : Option Register → ℕ → List ℕ → Line
+store_by None b rhs = line.Other
+store_by (Some q) b rhs = line.Store (record { reg = q; from = b + from_of rhs; to = b + to_end rhs })
 
 -- without the last byte, split at the first `=`, of a text that begins at the place a
 abbrev pub split_store : ℕ → List ℕ → Line

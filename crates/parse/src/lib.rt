@@ -5,7 +5,7 @@ ghost use Rattle.std.specs.Prelude.{◌≡◌, ◌<◌, ◌≤◌, ◌+◌, ◌-
 ghost use Rattle.lines.specs.Lf.{part, up_to, parts_of};
 ghost use Rattle.text.specs.Trim.{from_of, trim_of};
 ghost use Rattle.names.specs.Names.{reg_of, is_reg};
-ghost use Rattle.names.specs.declared.RegName.TheVariants.{None};
+ghost use Rattle.std.specs.declared.option.Option.TheVariants.{None};
 ghost use Rattle.parse.specs.Parse.{all_regs, is_decl, store_in, split_store, parse_of, text_of};
 ghost use Rattle.parse.specs.Inner.Parse.{digits_len, short_reg, NameTo, plain_byte, plain_value};
 
@@ -29,8 +29,8 @@ fn is_reg(s: &[u8]) -> bool
     ensures { result ≡ is_reg (reg_of s.now) }
 {
     match names::reg_name(s) {
-        names::RegName::Reg(_) => true,
-        names::RegName::None => false,
+        Some(_) => true,
+        None => false,
     }
 }
 
@@ -177,7 +177,7 @@ fn split_store(u: &[u8], a: usize) -> Line
         return Line::Other;
     }
     match names::reg_name(text::trim(&u[..k])) {
-        names::RegName::Reg(q) => {
+        Some(q) => {
             let v = text::trim_span(&u[b..]);
             Line::Store(Store {
                 reg: q,
@@ -185,7 +185,7 @@ fn split_store(u: &[u8], a: usize) -> Line
                 to: a + b + v.to,
             })
         }
-        names::RegName::None => Line::Other,
+        None => Line::Other,
     }
 }
 
@@ -222,12 +222,12 @@ fn plain_value(line: &[u8], e: usize) -> bool
 }
 
 // The register whose name stands from a to e, where the line is plainly a store of it.
-fn plain_store(line: &[u8], a: usize, e: usize) -> names::RegName
+fn plain_store(line: &[u8], a: usize, e: usize) -> Option<names::Register>
     requires { a ≤ e }
     ensures { result ≡ cond (plain_value e line.now) (reg_of (part a e line.now)) None }
 {
     if !plain_value(line, e) {
-        return names::RegName::None;
+        return None;
     }
     names::reg_name(&line[a..e])
 }
@@ -361,14 +361,14 @@ fn parse_reg(line: &[u8], a: usize) -> Line
         return Line::Other;
     }
     match plain_store(line, a, e) {
-        names::RegName::Reg(q) => {
+        Some(q) => {
             return Line::Store(Store {
                 reg: q,
                 from: e + 3,
                 to: line.len() - 1,
             });
         }
-        names::RegName::None => {}
+        None => {}
     }
     match parse_any(line) {
         Line::Decl => Line::Decl,

@@ -15,8 +15,8 @@ use Rattle.text.specs.Class.{is_name}
 use Rattle.text.specs.Trim.{trim_start, trim_of}
 use Rattle.names.specs.Names.{phi_text, phi_of, phi_is}
 use Rattle.names.specs.declared.Phi.{Phi}
-use Rattle.names.specs.declared.PhiName.{PhiName}
-use Rattle.names.specs.declared.PhiName.TheVariants as name
+use Rattle.std.specs.declared.option.Option.{Option}
+use Rattle.std.specs.declared.option.Option.TheVariants.{Some, None}
 use Rattle.names.proofs.Equal.{front_of}
 use Rattle.names.proofs.Texts.{phi-names, phi-text-value}
 use Rattle.parse.specs.Parse.{let_word, body_of, is_let}
@@ -82,13 +82,13 @@ module _ (n : ℕ) (fits : n < 2 ^ 64) where
   unfolding runs
   piece-none x p o = go (phi_of (trim_of x)) refl p o
     where
-      other : (b : Bool) → same (trim_of x) (phi_text n) ≡ b → (q : Phi) → phi_of (trim_of x) ≡ name.Phi q → eqb q.0 n ≡ false → same (trim_of x) (phi_text n) ≡ false
+      other : (b : Bool) → same (trim_of x) (phi_text n) ≡ b → (q : Phi) → phi_of (trim_of x) ≡ Some q → eqb q.0 n ≡ false → same (trim_of x) (phi_text n) ≡ false
       other false e q f k = e
       other true e q f k = no (sym k ∙ ap (phi_is n) (sym f ∙ ap phi_of (same-eq (trim_of x) (phi_text n) e) ∙ phi-text-value n fits) ∙ eq-eqb n n refl)
 
-      go : (m : PhiName) → phi_of (trim_of x) ≡ m → is_phi m ≡ true → phi_is n m ≡ false → many (runs x) ≡ 0
-      go name.None f a b = no a
-      go (name.Phi q) f a b =
+      go : (m : Option Phi) → phi_of (trim_of x) ≡ m → is_phi m ≡ true → phi_is n m ≡ false → many (runs x) ≡ 0
+      go None f a b = no a
+      go (Some q) f a b =
           ap (λ (rs : List (List ℕ)). many rs) (trim-runs x ∙ name_runs (trim_of x) [] (phi-names (trim_of x) q f))
           ∙ flush-none (trim_of x) (other (same (trim_of x) (phi_text n)) refl q f b)
 

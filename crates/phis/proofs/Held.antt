@@ -14,8 +14,9 @@ use Rattle.lines.proofs.LfLaws.{rest_of, drop_min}
 use Rattle.lines.proofs.Compare.{hold-here}
 use Rattle.text.specs.Trim.{from_of, to_of, trim_start, trim_of}
 use Rattle.names.specs.Names.{phi_word, phi_text, decimal, phi_of}
-use Rattle.names.specs.declared.PhiName.{PhiName}
-use Rattle.names.specs.declared.PhiName.TheVariants as name
+use Rattle.std.specs.declared.option.Option.{Option}
+use Rattle.names.specs.declared.Phi.{Phi}
+use Rattle.std.specs.declared.option.Option.TheVariants.{Some, None}
 use Rattle.parse.specs.Parse.{body_of, is_let}
 use Rattle.words.specs.Hits.{hits_go, hits}
 use Rattle.reading.specs.Assign.{unended, is_assign, left_of}
@@ -74,15 +75,15 @@ held-trim s h = held-take (to_of (trim_start s)) (trim_start s) (held-drop (from
 
 -- ---- a text that names no phi, stores none, declares none
 
-phi_none : (s : List ℕ) → holds phi_word s ≡ false → phi_of s ≡ name.None
+phi_none : (s : List ℕ) → holds phi_word s ≡ false → phi_of s ≡ None
 unfolding phi_of
 phi_none s h = rw (held-front s h)
 
-store-none : (t : List ℕ) → holds phi_word t ≡ false → phi_store t ≡ name.None
+store-none : (t : List ℕ) → holds phi_word t ≡ false → phi_store t ≡ None
 unfolding phi_store left_of
 store-none t h = rw (phi_none (left_of t) (held-trim _ (held-take (up_to 61 (unended t)) (unended t) (held-take (length t - 1) t h)))) (go (not (is_let t) && is_assign t))
   where
-    go : (b : Bool) → cond b name.None name.None ≡ name.None
+    go : (b : Bool) → cond b None None ≡ None
     go true = refl
     go false = refl
 
@@ -90,7 +91,7 @@ phis-none : (s : List ℕ) → holds phi_word s ≡ false → all_phis (parts_of
 phis-none s h =
     let e : ℕ = 0 + up_to 44 (drop 0 s) in
     phis-all (parts_of 44 s)
-    ∙ ap not (piece-hit (λ (x : List ℕ). piece_other x) s 0 e (omega arith) refl (part 0 e s) refl (ap (λ (n : PhiName). not (is_phi n)) (phi_none (trim_of (part 0 e s)) (held-trim (part 0 e s) (held-take (e - 0) s h)))))
+    ∙ ap not (piece-hit (λ (x : List ℕ). piece_other x) s 0 e (omega arith) refl (part 0 e s) refl (ap (λ (n : Option Phi). not (is_phi n)) (phi_none (trim_of (part 0 e s)) (held-trim (part 0 e s) (held-take (e - 0) s h)))))
 
 decl-none : (t : List ℕ) → holds phi_word t ≡ false → phi_decl t ≡ false
 unfolding phi_decl
@@ -99,7 +100,7 @@ decl-none t h = rw (phis-none (body_of t) (held-take (length t - 1 - 4) (drop 4 
 -- ---- a line
 
 module _ (l : List ℕ) (h : holds phi_word l ≡ false) where
-  pub held-store : phi_store (trim_start l) ≡ name.None
+  pub held-store : phi_store (trim_start l) ≡ None
   held-store = store-none (trim_start l) (held-drop (from_of l) l h)
 
   pub held-decl : phi_decl (trim_start l) ≡ false

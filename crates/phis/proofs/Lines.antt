@@ -10,8 +10,9 @@ use lib.ListN.{length, length-append}
 use Rattle.lines.specs.Lf.{part, parts_of, prefixed, ends_in}
 use Rattle.lines.proofs.Tests.{and_left}
 use Rattle.names.specs.Names.{phi_word, phi_text, decimal, phi_of, phi_is}
-use Rattle.names.specs.declared.PhiName.{PhiName}
-use Rattle.names.specs.declared.PhiName.TheVariants as name
+use Rattle.std.specs.declared.option.Option.{Option}
+use Rattle.names.specs.declared.Phi.{Phi}
+use Rattle.std.specs.declared.option.Option.TheVariants.{Some, None}
 use Rattle.names.proofs.Texts.{phi-text-names}
 use Rattle.parse.specs.Parse.{let_word, body_of, is_let}
 use Rattle.words.specs.Inner.Runs.{words_of}
@@ -55,11 +56,11 @@ module _ (t : List ℕ) where
   unfolding phi_decl
   decl-long e = let-long (and_left (is_let t) (all_phis (parts_of 44 (body_of t))) e)
 
-  pub store-let : is_let t ≡ true → phi_store t ≡ name.None
+  pub store-let : is_let t ≡ true → phi_store t ≡ None
   unfolding phi_store
   store-let e = rw e
 
-  pub store_other : is_let t ≡ false → is_assign t ≡ false → phi_store t ≡ name.None
+  pub store_other : is_let t ≡ false → is_assign t ≡ false → phi_store t ≡ None
   unfolding phi_store
   store_other e a = rw (e, a)
 
@@ -68,15 +69,15 @@ module _ (t : List ℕ) where
   store_of x z e a = rw (e, a, z)
 
   module _ (p : ℕ) where
-    pub own-store : (n : PhiName) → n ≡ phi_store t → phi_is p n ≡ true → phi_own p t ≡ true
+    pub own-store : (n : Option Phi) → n ≡ phi_store t → phi_is p n ≡ true → phi_own p t ≡ true
     unfolding phi_own
     own-store n z e = rw (← z, e)
 
-    pub own-other : (n : PhiName) → n ≡ phi_store t → phi_is p n ≡ false → phi_decl t ≡ false → phi_own p t ≡ false
+    pub own-other : (n : Option Phi) → n ≡ phi_store t → phi_is p n ≡ false → phi_decl t ≡ false → phi_own p t ≡ false
     unfolding phi_own
     own-other n z e d = rw (← z, e, d)
 
-    pub own-decl : (n : PhiName) → n ≡ phi_store t → phi_is p n ≡ false → phi_decl t ≡ true → (body : List ℕ) → body ≡ part 4 (length t - 1) t → phi_own p t ≡ any_phi p (parts_of 44 body)
+    pub own-decl : (n : Option Phi) → n ≡ phi_store t → phi_is p n ≡ false → phi_decl t ≡ true → (body : List ℕ) → body ≡ part 4 (length t - 1) t → phi_own p t ≡ any_phi p (parts_of 44 body)
     unfolding phi_own
     own-decl n z e d body y = rw (← z, e, d, y)
 

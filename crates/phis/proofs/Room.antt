@@ -14,7 +14,7 @@ use Rattle.lines.proofs.Tests.{no, and_left, and_right, and_both}
 use Rattle.lines.proofs.StepLaws.{missing_lf, lines-text}
 use Rattle.text.specs.Trim.{from_of, trim_start, trim_of}
 use Rattle.names.specs.Names.{read_number, phi_by, phi_of}
-use Rattle.names.specs.declared.PhiName.TheVariants as name
+use Rattle.std.specs.declared.option.Option.TheVariants.{Some, None}
 use Rattle.parse.specs.Parse.{let_word, body_of, is_let}
 use Rattle.lexical.specs.Phi.{phi_rhs_pure}
 use Rattle.weight.specs.Inner.Weight.{spaced, extra, weight}
@@ -37,7 +37,7 @@ unfolding phi_of prefixed
 phi-long [] h = no h
 phi-long (x ∷ []) h = go (eqb 112 x) h
   where
-    go : (b : Bool) → is_phi (cond (b && false) (phi_by (read_number [])) name.None) ≡ true → 2 ≤ 1
+    go : (b : Bool) → is_phi (cond (b && false) (phi_by (read_number [])) None) ≡ true → 2 ≤ 1
     go true g = no g
     go false g = no g
 phi-long (x ∷ y ∷ t) h = omega arith

@@ -15,8 +15,8 @@ use Rattle.text.specs.Class.{is_name}
 use Rattle.text.specs.Trim.{trim_start}
 use Rattle.names.specs.Names.{phi_word, phi_text, phi_of, phi_is}
 use Rattle.names.specs.declared.Phi.{Phi}
-use Rattle.names.specs.declared.PhiName.{PhiName}
-use Rattle.names.specs.declared.PhiName.TheVariants as name
+use Rattle.std.specs.declared.option.Option.{Option}
+use Rattle.std.specs.declared.option.Option.TheVariants.{Some, None}
 use Rattle.names.proofs.Texts.{phi-text-value}
 use Rattle.parse.specs.Parse.{body_of, is_let}
 use Rattle.words.specs.Runs.{flush, runs, count_by}
@@ -41,15 +41,15 @@ else-length : (b : Bool) (d e : List ℕ) → length e ≡ length d → length (
 else-length true d e h = refl
 else-length false d e h = h
 
-pub store_length : (own : List ℕ) (s : PhiName) (d : List ℕ) → length (note_store own s d) ≡ length d
-store_length own name.None d = refl
-store_length own (name.Phi q) d = else-length (eqb (entry_of own q.0 d) 2) d _ (entry_length own d q.0 1)
+pub store_length : (own : List ℕ) (s : Option Phi) (d : List ℕ) → length (note_store own s d) ≡ length d
+store_length own None d = refl
+store_length own (Some q) d = else-length (eqb (entry_of own q.0 d) 2) d _ (entry_length own d q.0 1)
 
-pub name-length : (own : List ℕ) (stored : PhiName) (r : List ℕ) (s : PhiName) (d : List ℕ) → length (note_name own stored r s d) ≡ length d
-name-length own stored r name.None d = refl
-name-length own stored r (name.Phi q) d = if-length (not (phi_is q.0 stored) && same r (phi_text q.0)) d _ (entry_length own d q.0 2)
+pub name-length : (own : List ℕ) (stored : Option Phi) (r : List ℕ) (s : Option Phi) (d : List ℕ) → length (note_name own stored r s d) ≡ length d
+name-length own stored r None d = refl
+name-length own stored r (Some q) d = if-length (not (phi_is q.0 stored) && same r (phi_text q.0)) d _ (entry_length own d q.0 2)
 
-runs-length : (own : List ℕ) (stored : PhiName) (rs : List (List ℕ)) (d : List ℕ) → length (note_runs own stored rs d) ≡ length d
+runs-length : (own : List ℕ) (stored : Option Phi) (rs : List (List ℕ)) (d : List ℕ) → length (note_runs own stored rs d) ≡ length d
 unfolding note_runs
 runs-length own stored [] d = refl
 runs-length own stored (r ∷ rs) d = runs-length own stored rs (note_name own stored r (phi_of r) d) ∙ name-length own stored r (phi_of r) d
@@ -70,19 +70,19 @@ lines-length own (l ∷ ls) d = lines-length own ls (note_line own l d) ∙ line
 abbrev says : Bool → Bool → ℕ
 says r s = cond r 2 (cond s 1 0)
 
-phi-one : (q : Phi) (n : ℕ) → name.Phi q ≡ name.Phi (record { 0 = n }) → q.0 ≡ n
+phi-one : (q : Phi) (n : ℕ) → Some q ≡ Some (record { 0 = n }) → q.0 ≡ n
 phi-one q n h = ap worth h
   where
-    worth : PhiName → ℕ
-    worth name.None = 0
-    worth (name.Phi q) = q.0
+    worth : Option Phi → ℕ
+    worth None = 0
+    worth (Some q) = q.0
 
-none-not : {A : Type 0} (q : Phi) → name.None ≡ name.Phi q → A
+none-not : {A : Type 0} (q : Phi) → None ≡ Some q → A
 none-not q h = no (ap some h)
   where
-    some : PhiName → Bool
-    some name.None = false
-    some (name.Phi q) = true
+    some : Option Phi → Bool
+    some None = false
+    some (Some q) = true
 
 module _ (own : List ℕ) (n : ℕ) where
   -- the phi has a place in the table d, and what stands there
@@ -92,9 +92,9 @@ module _ (own : List ℕ) (n : ℕ) where
   abbrev entry : List ℕ → ℕ
   entry d = entry_of own n d
 
-  store-says : (o : PhiName) (d : List ℕ) (r s : Bool) → Placed d → entry d ≡ says r s → entry (note_store own o d) ≡ says r (s || phi_is n o)
-  store-says name.None d r s k h = h ∙ ap (says r) (sym (or-false s))
-  store-says (name.Phi q) d r s k h = go (eqb q.0 n) refl
+  store-says : (o : Option Phi) (d : List ℕ) (r s : Bool) → Placed d → entry d ≡ says r s → entry (note_store own o d) ≡ says r (s || phi_is n o)
+  store-says None d r s k h = h ∙ ap (says r) (sym (or-false s))
+  store-says (Some q) d r s k h = go (eqb q.0 n) refl
     where
       at : (r s : Bool) → entry d ≡ says r s → entry (cond (eqb (entry d) 2) d (with_entry own n 1 d)) ≡ says r (s || true)
       at true s h = rw h h
@@ -105,13 +105,13 @@ module _ (own : List ℕ) (n : ℕ) where
       other true e = h
       other false e = entry_other own d q.0 1 n k (eqb-false q.0 n e) ∙ h
 
-      go : (b : Bool) → eqb q.0 n ≡ b → entry (note_store own (name.Phi q) d) ≡ says r (s || b)
+      go : (b : Bool) → eqb q.0 n ≡ b → entry (note_store own (Some q) d) ≡ says r (s || b)
       go true e = ap (λ (v : ℕ). entry (cond (eqb (entry_of own v d) 2) d (with_entry own v 1 d))) (eqb-true q.0 n e) ∙ at r s h
       go false e = other (eqb (entry_of own q.0 d) 2) e ∙ ap (says r) (sym (or-false s))
 
-  module _ (fits : n < 2 ^ 64) (stored : PhiName) where
+  module _ (fits : n < 2 ^ 64) (stored : Option Phi) where
     -- a run that is phi n names phi n
-    same_names : (x : List ℕ) → same x (phi_text n) ≡ true → phi_of x ≡ name.Phi (record { 0 = n })
+    same_names : (x : List ℕ) → same x (phi_text n) ≡ true → phi_of x ≡ Some (record { 0 = n })
     same_names x e = ap phi_of (same-eq x (phi_text n) e) ∙ phi-text-value n fits
 
     abbrev reads : List ℕ → Bool
@@ -132,15 +132,15 @@ module _ (own : List ℕ) (n : ℕ) where
         other q e true = entry_other own d q.0 2 n k (eqb-false q.0 n e) ∙ h
         other q e false = h
 
-        by : (q : Phi) → phi_of x ≡ name.Phi q → (b : Bool) → eqb q.0 n ≡ b → entry (note_name own stored x (name.Phi q) d) ≡ says (r || reads x) s
+        by : (q : Phi) → phi_of x ≡ Some q → (b : Bool) → eqb q.0 n ≡ b → entry (note_name own stored x (Some q) d) ≡ says (r || reads x) s
         by q f true e = ap (λ (v : ℕ). entry (cond (not (phi_is v stored) && same x (phi_text v)) (with_entry own v 2 d) d)) (eqb-true q.0 n e) ∙ on (reads x)
         by q f false e =
             other q e (not (phi_is q.0 stored) && same x (phi_text q.0))
             ∙ off (same x (phi_text n)) refl (λ z. eqb-false q.0 n e (phi-one q n (sym f ∙ same_names x z)))
 
-        go : (m : PhiName) → phi_of x ≡ m → entry (note_name own stored x m d) ≡ says (r || reads x) s
-        go name.None f = h ∙ off (same x (phi_text n)) refl (λ z. none-not (record { 0 = n }) (sym f ∙ same_names x z))
-        go (name.Phi q) f = by q f (eqb q.0 n) refl
+        go : (m : Option Phi) → phi_of x ≡ m → entry (note_name own stored x m d) ≡ says (r || reads x) s
+        go None f = h ∙ off (same x (phi_text n)) refl (λ z. none-not (record { 0 = n }) (sym f ∙ same_names x z))
+        go (Some q) f = by q f (eqb q.0 n) refl
 
     -- how many runs are phi n
     abbrev many : List (List ℕ) → ℕ
@@ -173,7 +173,7 @@ reads-by n k l e = rw (e, phi-hits n k l (words_of (phi_text n) l) refl) (go (lt
     go false true = refl
     go false false = refl
 
-decl-store : (t : List ℕ) → phi_decl t ≡ true → phi_store t ≡ name.None
+decl-store : (t : List ℕ) → phi_decl t ≡ true → phi_store t ≡ None
 unfolding phi_decl
 decl-store t e = store-let t (and_left (is_let t) (all_phis (parts_of 44 (body_of t))) e)
 
@@ -182,10 +182,10 @@ module _ (own : List ℕ) (n : ℕ) (fits : n < 2 ^ 64) where
   unfolding note_line
   line-says l d r s k h = go (holds phi_word l) refl (phi_decl (trim_start l)) refl
     where
-      stored : PhiName
+      stored : Option Phi
       stored = phi_store (trim_start l)
 
-      none : phi_reads n l ≡ false → stored ≡ name.None → says r s ≡ says (r || phi_reads n l) (s || phi_is n stored)
+      none : phi_reads n l ≡ false → stored ≡ None → says r s ≡ says (r || phi_reads n l) (s || phi_is n stored)
       none e f = rw (e, f) (ap (λ (b : Bool). says b s) (sym (or-false r)) ∙ ap (says (r || false)) (sym (or-false s)))
 
       go : (a : Bool) → holds phi_word l ≡ a → (b : Bool) → phi_decl (trim_start l) ≡ b → entry_of own n (cond (a && not b) (note_runs own stored (runs l) (note_store own stored d)) d) ≡ says (r || phi_reads n l) (s || phi_is n stored)
@@ -247,31 +247,31 @@ module _ (own d : List ℕ) (v k : ℕ) (e : k ≡ slot_of (length d) own v) whe
   pub stored-new : (get_or d k 0 ≡ 2 → ⊥) → set d k 1 ≡ cond (eqb (entry_of own v d) 2) d (with_entry own v 1 d)
   stored-new h = stored_at false (ne_eqb (get_or d k 0) 2 h)
 
-pub read-own : (stored : PhiName) (r d e : List ℕ) (v : ℕ) → phi_is v stored ≡ true → d ≡ cond (not (phi_is v stored) && same r (phi_text v)) e d
+pub read-own : (stored : Option Phi) (r d e : List ℕ) (v : ℕ) → phi_is v stored ≡ true → d ≡ cond (not (phi_is v stored) && same r (phi_text v)) e d
 read-own stored r d e v f = rw f
 
-pub read_by : (stored : PhiName) (r d e : List ℕ) (v : ℕ) (b : Bool) → phi_is v stored ≡ false → same r (phi_text v) ≡ b → cond b e d ≡ cond (not (phi_is v stored) && same r (phi_text v)) e d
+pub read_by : (stored : Option Phi) (r d e : List ℕ) (v : ℕ) (b : Bool) → phi_is v stored ≡ false → same r (phi_text v) ≡ b → cond b e d ≡ cond (not (phi_is v stored) && same r (phi_text v)) e d
 read_by stored r d e v b f g = rw (f, g)
 
 -- ---- the loop over a text: the run from a to i is open
 
-pub record RunsInv (own : List ℕ) (stored : PhiName) (s d₀ d : List ℕ) (a i : ℕ) : Type 0 where
+pub record RunsInv (own : List ℕ) (stored : Option Phi) (s d₀ d : List ℕ) (a i : ℕ) : Type 0 where
   pub long : length d ≡ length d₀
   pub walk : Walk (note_runs own stored) s d₀ d a i
 
-runs-flush : (own : List ℕ) (stored : PhiName) (cur : List ℕ) (rs : List (List ℕ)) (d : List ℕ) → note_runs own stored (flush cur ++ rs) d ≡ note_runs own stored rs (note_name own stored cur (phi_of cur) d)
+runs-flush : (own : List ℕ) (stored : Option Phi) (cur : List ℕ) (rs : List (List ℕ)) (d : List ℕ) → note_runs own stored (flush cur ++ rs) d ≡ note_runs own stored rs (note_name own stored cur (phi_of cur) d)
 unfolding note_runs phi_of
 runs-flush own stored [] rs d = refl
 runs-flush own stored (x ∷ cur) rs d = refl
 
-runs_none : (own : List ℕ) (stored : PhiName) (d : List ℕ) → note_runs own stored [] d ≡ d
+runs_none : (own : List ℕ) (stored : Option Phi) (d : List ℕ) → note_runs own stored [] d ≡ d
 unfolding note_runs
 runs_none own stored d = refl
 
-pub runs-start : (own : List ℕ) (stored : PhiName) (s d : List ℕ) → RunsInv own stored s d d 0 0
+pub runs-start : (own : List ℕ) (stored : Option Phi) (s d : List ℕ) → RunsInv own stored s d d 0 0
 runs-start own stored s d = record { long = refl; walk = walk_start (note_runs own stored) s d }
 
-module _ {own : List ℕ} {stored : PhiName} {s d₀ d : List ℕ} {a i : ℕ} (h : RunsInv own stored s d₀ d a i) where
+module _ {own : List ℕ} {stored : Option Phi} {s d₀ d : List ℕ} {a i : ℕ} (h : RunsInv own stored s d₀ d a i) where
   pub runs-name : i < length s → is_name (get_or s i 0) ≡ true → RunsInv own stored s d₀ d a (i + 1)
   runs-name k e = record { long = h.long; walk = walk-name h.walk k e }
 
@@ -297,11 +297,11 @@ module _ (own l d : List ℕ) where
     unfolding note_line
     line-decl e = rw (h, sym (ap phi_decl z) ∙ e)
 
-    pub line-noted : phi_decl t ≡ false → (stored : PhiName) (c e : List ℕ) → stored ≡ phi_store t → c ≡ note_store own stored d → e ≡ note_runs own stored (runs l) c → e ≡ note_line own l d
+    pub line-noted : phi_decl t ≡ false → (stored : Option Phi) (c e : List ℕ) → stored ≡ phi_store t → c ≡ note_store own stored d → e ≡ note_runs own stored (runs l) c → e ≡ note_line own l d
     unfolding note_line
     line-noted k stored c e o x y =
         let w : stored ≡ phi_store (trim_start l) = o ∙ ap phi_store z in
-        rw (h, sym (ap phi_decl z) ∙ k) (y ∙ ap (note_runs own stored (runs l)) x ∙ ap (λ (m : PhiName). note_runs own m (runs l) (note_store own m d)) w)
+        rw (h, sym (ap phi_decl z) ∙ k) (y ∙ ap (note_runs own stored (runs l)) x ∙ ap (λ (m : Option Phi). note_runs own m (runs l) (note_store own m d)) w)
 
 -- ---- the loop over lines: those from i on are still to be noted
 

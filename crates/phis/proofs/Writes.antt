@@ -16,8 +16,8 @@ use Rattle.lines.proofs.OutLaws.{Writing, writing_start, writing-as, writing-roo
 use Rattle.text.specs.Trim.{from_of, trim_start, trim_of}
 use Rattle.names.specs.Names.{phi_word, phi_text, phi_of}
 use Rattle.names.specs.declared.Phi.{Phi}
-use Rattle.names.specs.declared.PhiName.{PhiName}
-use Rattle.names.specs.declared.PhiName.TheVariants as name
+use Rattle.std.specs.declared.option.Option.{Option}
+use Rattle.std.specs.declared.option.Option.TheVariants.{Some, None}
 use Rattle.names.proofs.Texts.{phi_number}
 use Rattle.parse.specs.Parse.{body_of, is_let}
 use Rattle.lexical.specs.Phi.{phi_rhs_pure}
@@ -32,7 +32,7 @@ use Rattle.phis.specs.Inner.Rounds.{live_by, live, store_text, change_text}
 -- ---- the names that stay
 
 -- a phi that was read is printed by its own digits
-phi-bare : (t : List ℕ) (q : Phi) → phi_of t ≡ name.Phi q → phi_text q.0 ≡ bare_name 3 t
+phi-bare : (t : List ℕ) (q : Phi) → phi_of t ≡ Some q → phi_text q.0 ≡ bare_name 3 t
 phi-bare t q h = after-bare phi_word t q.0 (phi_number t q h)
 
 live-one : (ls : List (List ℕ)) (t : List ℕ) → live_phi ls (phi_of t) ≡ one (live ls t) 3 t
@@ -42,9 +42,9 @@ live-one ls t = go (phi_of t) refl
     by true x y e = refl
     by false x y e = ap (λ (z : List ℕ). z ∷ []) e
 
-    go : (n : PhiName) → phi_of t ≡ n → live_phi ls n ≡ one (live_by ls n) 3 t
-    go name.None h = refl
-    go (name.Phi q) h = by (dead_phi q.0 ls) (phi_text q.0) (bare_name 3 t) (phi-bare t q h)
+    go : (n : Option Phi) → phi_of t ≡ n → live_phi ls n ≡ one (live_by ls n) 3 t
+    go None h = refl
+    go (Some q) h = by (dead_phi q.0 ls) (phi_text q.0) (bare_name 3 t) (phi-bare t q h)
 
 pub names-live : (ls ps : List (List ℕ)) → live_phis ls ps ≡ kept (live ls) 3 ps
 unfolding live_phis kept
@@ -72,7 +72,7 @@ pub dead-assign : (ls : List (List ℕ)) (t : List ℕ) → phi_dead (phi_store 
 unfolding phi_store
 dead-assign ls t h = go (is_let t) (is_assign t) h
   where
-    go : (a b : Bool) → phi_dead (cond (not a && b) (phi_of (left_of t)) name.None) ls ≡ true → b ≡ true
+    go : (a b : Bool) → phi_dead (cond (not a && b) (phi_of (left_of t)) None) ls ≡ true → b ≡ true
     go true b g = no g
     go false true g = refl
     go false false g = no g
@@ -82,9 +82,9 @@ module _ (R : Reading) (ls : List (List ℕ)) (l t indent : List ℕ) (a : ℕ) 
   indent-is : indent ≡ take (from_of l) l
   indent-is = let w : a - 0 ≡ from_of l = omega arith in y ∙ ap (λ (n : ℕ). take n l) w
 
-  module _ (n : PhiName) (s : n ≡ phi_store t) where
+  module _ (n : Option Phi) (s : n ≡ phi_store t) where
     dead-is : (b : Bool) → phi_dead n ls ≡ b → phi_dead (phi_store (trim_start l)) ls ≡ b
-    dead-is b e = ap (λ (x : List ℕ). phi_dead (phi_store x) ls) (sym z) ∙ ap (λ (m : PhiName). phi_dead m ls) (sym s) ∙ e
+    dead-is b e = ap (λ (x : List ℕ). phi_dead (phi_store x) ls) (sym z) ∙ ap (λ (m : Option Phi). phi_dead m ls) (sym s) ∙ e
 
     pub change-store : phi_dead n ls ≡ true → change_text R ls l ≡ store_text R indent (right_of t)
     unfolding change_text phi_act

@@ -6,8 +6,9 @@ use Rattle.lines.specs.Lf.{parts_of}
 use Rattle.lines.specs.Acts.{Act, keep, become, gone, apply}
 use Rattle.text.specs.Trim.{from_of, trim_start, trim_of}
 use Rattle.names.specs.Names.{phi_of, phi_text, phi_is}
-use Rattle.names.specs.declared.PhiName.{PhiName}
-use Rattle.names.specs.declared.PhiName.TheVariants as name
+use Rattle.std.specs.declared.option.Option.{Option}
+use Rattle.names.specs.declared.Phi.{Phi}
+use Rattle.std.specs.declared.option.Option.TheVariants.{Some, None}
 use Rattle.parse.specs.Parse.{body_of, is_let}
 use Rattle.lexical.specs.Phi.{phi_rhs_pure}
 use Rattle.words.specs.Hits.{hits}
@@ -17,9 +18,9 @@ use Rattle.reading.specs.Assign.{is_assign, left_of, right_of}
 
 -- ---- what a line is here. Only its front is trimmed: with white space after the `;` it is neither
 
-abbrev pub is_phi : PhiName → Bool
-is_phi name.None = false
-is_phi (name.Phi q) = true
+abbrev pub is_phi : Option Phi → Bool
+is_phi None = false
+is_phi (Some q) = true
 
 unfoldable pub all_phis : List (List ℕ) → Bool
 all_phis [] = true
@@ -36,9 +37,9 @@ any_phi p [] = false
 any_phi p (x ∷ xs) = phi_is p (phi_of (trim_of x)) || any_phi p xs
 
 -- the phi that a line stores
-unfoldable pub phi_store : List ℕ → PhiName
+unfoldable pub phi_store : List ℕ → Option Phi
 unfolding is_let
-phi_store t = cond (not (is_let t) && is_assign t) (phi_of (left_of t)) name.None
+phi_store t = cond (not (is_let t) && is_assign t) (phi_of (left_of t)) None
 
 -- ---- a phi that nothing reads: every mention of its text, `phi` and its number, stands in a line that stores it or in a declaration of phis
 -- that has it (`total <= own + in_decl`)
@@ -67,9 +68,9 @@ phi_stored p (l ∷ ls) = phi_is p (phi_store (trim_start l)) || phi_stored p ls
 abbrev pub dead_phi : ℕ → List (List ℕ) → Bool
 dead_phi p ls = phi_stored p ls && not (phi_read p ls)
 
-abbrev pub phi_dead : PhiName → List (List ℕ) → Bool
-phi_dead name.None ls = false
-phi_dead (name.Phi q) ls = dead_phi q.0 ls
+abbrev pub phi_dead : Option Phi → List (List ℕ) → Bool
+phi_dead None ls = false
+phi_dead (Some q) ls = dead_phi q.0 ls
 
 -- some line of ms stores a phi that is dead in ls
 unfoldable pub any_dead : List (List ℕ) → List (List ℕ) → Bool
@@ -79,9 +80,9 @@ any_dead ls (m ∷ ms) = phi_dead (phi_store (trim_start m)) ls || any_dead ls m
 -- ---- one round
 
 -- the names of a declaration that are not dead, as they are printed
-abbrev pub live_phi : List (List ℕ) → PhiName → List (List ℕ)
-live_phi ls name.None = []
-live_phi ls (name.Phi q) = cond (dead_phi q.0 ls) [] (phi_text q.0 ∷ [])
+abbrev pub live_phi : List (List ℕ) → Option Phi → List (List ℕ)
+live_phi ls None = []
+live_phi ls (Some q) = cond (dead_phi q.0 ls) [] (phi_text q.0 ∷ [])
 
 unfoldable pub live_phis : List (List ℕ) → List (List ℕ) → List (List ℕ)
 live_phis ls [] = []

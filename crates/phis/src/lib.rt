@@ -21,12 +21,12 @@ ghost use Rattle.phis.specs.Inner.Table.{Tells};
 ghost use Rattle.phis.specs.Inner.Rounds.{live, store_text, change_text, longest};
 
 // Whether a name is that of a phi.
-fn is_phi(name: names::PhiName, phi: names::Phi) -> bool
+fn is_phi(name: Option<names::Phi>, phi: names::Phi) -> bool
     ensures { result ≡ phi_is phi.0 name }
 {
     match name {
-        names::PhiName::Phi(q) => q.0 == phi.0,
-        names::PhiName::None => false,
+        Some(q) => q.0 == phi.0,
+        None => false,
     }
 }
 
@@ -35,8 +35,8 @@ fn names_phi(t: &[u8]) -> bool
     ensures { result ≡ is_phi (phi_of t.now) }
 {
     match names::phi_name(t) {
-        names::PhiName::Phi(q) => true,
-        names::PhiName::None => false,
+        Some(q) => true,
+        None => false,
     }
 }
 
@@ -99,24 +99,24 @@ fn phi_decl(t: &[u8]) -> bool
 }
 
 // The phi that a text, its front trimmed, stores.
-fn phi_store(t: &[u8]) -> names::PhiName
+fn phi_store(t: &[u8]) -> Option<names::Phi>
     ensures { result ≡ phi_store t.now }
 {
     if is_let(t) {
-        return names::PhiName::None;
+        return None;
     }
     match reading::assign_of(t) {
-        reading::Assign::Split(s) => names::phi_name(reading::left_of(t, s)),
-        reading::Assign::None => names::PhiName::None,
+        Some(s) => names::phi_name(reading::left_of(t, s)),
+        None => None,
     }
 }
 
 // The phi that a line stores.
-fn line_store(line: &[u8]) -> names::PhiName
+fn line_store(line: &[u8]) -> Option<names::Phi>
     ensures { result ≡ phi_store (trim_start line.now) }
 {
     if !table::has_phi(line) {
-        return names::PhiName::None;
+        return None;
     }
     phi_store(text::trim_start(line))
 }
@@ -191,13 +191,13 @@ fn dead_phi(text: &[u8], own: &[usize], phi: names::Phi, table: &[u8]) -> bool
 }
 
 // Whether a name is that of a phi that is dead in a text.
-fn dead_by(name: names::PhiName, text: &[u8], own: &[usize], table: &[u8]) -> bool
+fn dead_by(name: Option<names::Phi>, text: &[u8], own: &[usize], table: &[u8]) -> bool
     requires { Tells own.now (lines_of text.now) table.now }
     ensures { result ≡ phi_dead name (lines_of text.now) }
 {
     match name {
-        names::PhiName::Phi(q) => dead_phi(text, own, q, table),
-        names::PhiName::None => false,
+        Some(q) => dead_phi(text, own, q, table),
+        None => false,
     }
 }
 
@@ -220,8 +220,8 @@ fn is_live(t: &[u8], text: &[u8], own: &[usize], table: &[u8]) -> bool
     ensures { result ≡ live (lines_of text.now) t.now }
 {
     match names::phi_name(t) {
-        names::PhiName::Phi(q) => !dead_phi(text, own, q, table),
-        names::PhiName::None => false,
+        Some(q) => !dead_phi(text, own, q, table),
+        None => false,
     }
 }
 
@@ -288,14 +288,14 @@ fn put_store(
     ensures memory { drop (length t.now) scratch.new ≡ drop (length t.now) scratch.old }
 {
     match reading::assign_of(t) {
-        reading::Assign::Split(s) => {
+        Some(s) => {
             let x = reading::right_of(t, s);
             if no_effect(mode, x, scratch) {
                 return o;
             }
             put_value(indent, x, out, o)
         }
-        reading::Assign::None => o,
+        None => o,
     }
 }
 

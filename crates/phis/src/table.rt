@@ -38,17 +38,17 @@ fn note_stored(phi: names::Phi, own: &[usize], table: &mut [u8])
 }
 
 // Notes the phi that a line stores.
-fn note_store(name: names::PhiName, own: &[usize], table: &mut [u8])
+fn note_store(name: Option<names::Phi>, own: &[usize], table: &mut [u8])
     ensures { table.new ≡ note_store own.now name table.old }
 {
     match name {
-        names::PhiName::Phi(q) => note_stored(q, own, table),
-        names::PhiName::None => {}
+        Some(q) => note_stored(q, own, table),
+        None => {}
     }
 }
 
 // Notes that a phi is read, where a run is the phi as it is printed, and not the one that the line stores.
-fn note_read(r: &[u8], own: &[usize], phi: names::Phi, stored: names::PhiName, table: &mut [u8])
+fn note_read(r: &[u8], own: &[usize], phi: names::Phi, stored: Option<names::Phi>, table: &mut [u8])
     ensures { table.new ≡ cond (not (phi_is phi.0 stored) && same r.now (phi_text phi.0)) (with_entry own.now phi.0 2 table.old) table.old }
 {
     if is_phi(stored, phi) {
@@ -65,17 +65,17 @@ fn note_read(r: &[u8], own: &[usize], phi: names::Phi, stored: names::PhiName, t
 }
 
 // Notes a run of name bytes.
-fn note_run(r: &[u8], own: &[usize], stored: names::PhiName, table: &mut [u8])
+fn note_run(r: &[u8], own: &[usize], stored: Option<names::Phi>, table: &mut [u8])
     ensures { table.new ≡ note_name own.now stored r.now (phi_of r.now) table.old }
 {
     match names::phi_name(r) {
-        names::PhiName::Phi(q) => note_read(r, own, q, stored, table),
-        names::PhiName::None => {}
+        Some(q) => note_read(r, own, q, stored, table),
+        None => {}
     }
 }
 
 // Notes the runs of name bytes of a line that stores the phi `stored`.
-fn note_runs(s: &[u8], own: &[usize], stored: names::PhiName, table: &mut [u8])
+fn note_runs(s: &[u8], own: &[usize], stored: Option<names::Phi>, table: &mut [u8])
     ensures { table.new ≡ note_runs own.now stored (runs s.now) table.old }
 {
     let mut a = 0;

@@ -12,7 +12,6 @@ ghost use Rattle.po.specs.Inner.Index.{Tells};
 ghost use Rattle.po.specs.Inner.ReadWalk.{formed, is_reference, follows, next_of, state_at, gives_one, gives, same_id, At, read_verdict};
 
 use crate::{Line, Seek, Strings, file_name, index, same_text, unit_at};
-use names::Number;
 use text::Utf8;
 
 const QUOTE: u8 = 34;

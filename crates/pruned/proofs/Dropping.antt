@@ -10,8 +10,9 @@ use Rattle.lines.specs.Acts.{Act, keep, act}
 use Rattle.lines.proofs.Tests.{no}
 use Rattle.text.specs.Trim.{from_of, trim_of}
 use Rattle.names.specs.Names.{reg_of, reg_text, is_reg}
-use Rattle.names.specs.declared.RegName.{RegName}
-use Rattle.names.specs.declared.RegName.TheVariants as name
+use Rattle.std.specs.declared.option.Option.{Option}
+use Rattle.names.specs.declared.Register.{Register}
+use Rattle.std.specs.declared.option.Option.TheVariants.{Some, None}
 use Rattle.parse.specs.Parse.{body_of, is_decl}
 use Rattle.reading.specs.Uses.{used_in}
 use Rattle.decls.specs.Decls.{decl_act}
@@ -20,7 +21,7 @@ use Rattle.pruned.proofs.Fitting.{In, here, there}
 
 -- one of the pieces of a declaration names register v
 pub data Names (v : ℕ) : List (List ℕ) → Type 0 where
-  first : {p : List ℕ} {ps : List (List ℕ)} → reg_of (trim_of p) ≡ name.Reg (record { 0 = v }) → Names v (p ∷ ps)
+  first : {p : List ℕ} {ps : List (List ℕ)} → reg_of (trim_of p) ≡ Some (record { 0 = v }) → Names v (p ∷ ps)
   later : {p : List ℕ} {ps : List (List ℕ)} → Names v ps → Names v (p ∷ ps)
 
 -- an act leaves register v in the declaration with that indent: it stands as it was, or it is reprinted with v among its names
@@ -49,12 +50,12 @@ each-by x [] i f = none_in [] refl i
 each-by x (d ∷ cs) here f = f d here refl
 each-by x (d ∷ cs) (there i) f = each-by x cs i (λ e k q. f e (there k) q)
 
-reg-not : {A : Type 0} (v : ℕ) → name.None ≡ name.Reg (record { 0 = v }) → A
+reg-not : {A : Type 0} (v : ℕ) → None ≡ Some (record { 0 = v }) → A
 reg-not v e = no (ap is_reg e)
 
-abbrev value_of : RegName → ℕ
-value_of name.None = 0
-value_of (name.Reg q) = q.0
+abbrev value_of : Option Register → ℕ
+value_of None = 0
+value_of (Some q) = q.0
 
 module _ (run ps : List (List ℕ)) (v : ℕ) (u : used_in v run ≡ true) (rest : (d : List (List ℕ)) → In d (choices run ps) → Names v ps → In (reg_text v) d) where
   -- the first piece is v itself: it stays
@@ -76,11 +77,11 @@ module _ (run ps : List (List ℕ)) (v : ℕ) (u : used_in v run ≡ true) (rest
       go true k = none_in [] refl k
       go false k = rest c k n
 
-  choice-by : (r : RegName) {p : List ℕ} {c : List (List ℕ)} → reg_of (trim_of p) ≡ r → In c (with_name run r (choices run ps)) → Names v (p ∷ ps) → In (reg_text v) c
-  choice-by name.None e i (first k) = reg-not v (sym e ∙ k)
-  choice-by name.None {c = c} e i (later n) = rest c i n
-  choice-by (name.Reg q) e i (first k) = this-by q.0 (ap value_of (sym e ∙ k)) i
-  choice-by (name.Reg q) e i (later n) = rest-by q.0 i n
+  choice-by : (r : Option Register) {p : List ℕ} {c : List (List ℕ)} → reg_of (trim_of p) ≡ r → In c (with_name run r (choices run ps)) → Names v (p ∷ ps) → In (reg_text v) c
+  choice-by None e i (first k) = reg-not v (sym e ∙ k)
+  choice-by None {c = c} e i (later n) = rest c i n
+  choice-by (Some q) e i (first k) = this-by q.0 (ap value_of (sym e ∙ k)) i
+  choice-by (Some q) e i (later n) = rest-by q.0 i n
 
 choices-keep : (run ps : List (List ℕ)) (v : ℕ) → used_in v run ≡ true → {c : List (List ℕ)} → In c (choices run ps) → Names v ps → In (reg_text v) c
 unfolding choices

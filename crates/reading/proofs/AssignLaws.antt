@@ -20,7 +20,7 @@ use Rattle.parse.proofs.Plain.{starts-plain}
 use Rattle.parse.proofs.PlainLine.{spaced-to, spaced-from, spaced-end}
 use Rattle.parse.proofs.Shut.{drop-take}
 use Rattle.reading.specs.declared.Sides.{Sides}
-use Rattle.reading.specs.declared.Assign.TheVariants.{Split, None}
+use Rattle.std.specs.declared.option.Option.TheVariants.{Some, None}
 use Rattle.reading.specs.Assign.{unended, is_assign, left_of, right_of}
 use Rattle.reading.specs.Inner.Assign.{split_at, plain_sides, sides_of, assign_of}
 
@@ -52,12 +52,12 @@ module _ (u : List ℕ) (k : ℕ) (q' : k ≡ 0 + up_to 61 u) where
 
   -- as they are put together from the two spans
   pub sides-are : k < length u → (w v : Span) → w.from ≡ from_of (take k u) → w.to ≡ to_end (take k u) → v.from ≡ from_of (part (k + 1) (length u) u) → v.to ≡ to_end (part (k + 1) (length u) u) →
-      Split (record { left = w; right = record { from = k + 1 + v.from; to = k + 1 + v.to } }) ≡ sides_of u
+      Some (record { left = w; right = record { from = k + 1 + v.from; to = k + 1 + v.to } }) ≡ sides_of u
   sides-are h w v a b c d =
       let r = rest_of u (k + 1) in
       let f : v.from ≡ from_of (drop (k + 1) u) = c ∙ ap from_of r in
       let g : v.to ≡ to_end (drop (k + 1) u) = d ∙ ap (λ (l : List ℕ). to_end l) r in
-      ap (λ (x : Span). Split (record { left = x; right = record { from = k + 1 + v.from; to = k + 1 + v.to } })) (span-is w a b)
+      ap (λ (x : Span). Some (record { left = x; right = record { from = k + 1 + v.from; to = k + 1 + v.to } })) (span-is w a b)
       ∙ rw (f, g, add-one k) (sym (sides-split h))
 
   -- with one space on either side of the `=`
@@ -134,15 +134,15 @@ module _ (u : List ℕ) (k : ℕ) (q' : k ≡ 0 + up_to 61 u) where
     pub sides-room : (2 ≤ k) × (k + 3 ≤ length u)
     sides-room = (far, room)
 
-    pub sides-plain : Split (record { left = record { from = 0; to = k - 1 }; right = record { from = k + 2; to = length u } }) ≡ sides_of u
+    pub sides-plain : Some (record { left = record { from = 0; to = k - 1 }; right = record { from = k + 2; to = length u } }) ≡ sides_of u
     sides-plain =
         let r = rest_of u (k + 1) in
         let f : 1 ≡ from_of (part (k + 1) (length u) u) = spaced-from back back-two back-gap back-first ∙ ap from_of (sym r) in
         let g : length back ≡ to_end (part (k + 1) (length u) u) = sym (spaced-end back back-two back-gap back-first back_last) ∙ ap (λ (l : List ℕ). to_end l) (sym r) in
         let x : k + 2 ≡ k + 1 + 1 = omega arith in
         let y : length u ≡ k + 1 + length back = omega (arith, back_long, room) in
-        ap (λ (i : ℕ). Split (record { left = spanned 0 (k - 1); right = spanned i (length u) })) x
-        ∙ ap (λ (i : ℕ). Split (record { left = spanned 0 (k - 1); right = spanned (k + 1 + 1) i })) y
+        ap (λ (i : ℕ). Some (record { left = spanned 0 (k - 1); right = spanned i (length u) })) x
+        ∙ ap (λ (i : ℕ). Some (record { left = spanned 0 (k - 1); right = spanned (k + 1 + 1) i })) y
         ∙ sides-are (omega (arith, room)) (spanned 0 (k - 1)) (spanned 1 (length back)) front-from front-to f g
 
 pub assign-none : (t : List ℕ) → length t ≡ 0 → assign_of t ≡ None
@@ -222,14 +222,14 @@ module _ (t : List ℕ) (h : is_assign t ≡ true) where
         before-end = omega arith;
       }
 
-never : {A : Type 0} {s : Sides} → None ≡ Split s → A
+never : {A : Type 0} {s : Sides} → None ≡ Some s → A
 never h = let z : ◌≡◌ {A = ℕ} 0 1 = cc in absurd (omega arith)
 
-pub assign-split : (t : List ℕ) (s : Sides) → assign_of t ≡ Split s → Sided t s
+pub assign-split : (t : List ℕ) (s : Sides) → assign_of t ≡ Some s → Sided t s
 unfolding assign_of
 assign-split t s h = go (is_assign t) refl h
   where
-    go : (b : Bool) → is_assign t ≡ b → cond b (split_at (up_to 61 (unended t)) (unended t)) None ≡ Split s → Sided t s
+    go : (b : Bool) → is_assign t ≡ b → cond b (split_at (up_to 61 (unended t)) (unended t)) None ≡ Some s → Sided t s
     go true e g =
         let k : ℕ = up_to 61 (unended t) in
         let u : List ℕ = unended t in

@@ -12,8 +12,9 @@ use Rattle.lines.proofs.Tests.{no, and_left, and_right, and_both}
 use Rattle.text.specs.Class.{is_name}
 use Rattle.text.specs.Trim.{from_of, to_of, trim_of}
 use Rattle.names.specs.Names.{is_digit, all_digits, value, reg_word, reg_of, reg_is}
-use Rattle.names.specs.declared.RegName.{RegName}
-use Rattle.names.specs.declared.RegName.TheVariants as name
+use Rattle.std.specs.declared.option.Option.{Option}
+use Rattle.names.specs.declared.Register.{Register}
+use Rattle.std.specs.declared.option.Option.TheVariants.{Some, None}
 use Rattle.names.proofs.Digits.{all_append, number_read}
 use Rattle.names.proofs.Texts.{after-read, reg-number}
 use Rattle.parse.specs.Parse.{is_decl, store_by, split_store, store_in, parse_of, text_of}
@@ -86,9 +87,9 @@ module _ (v : ℕ) where
   name-none : (r : List ℕ) → all last_of r ≡ true → reg_is v (reg_of r) ≡ false
   name-none r h = go (reg_of r) refl
     where
-      go : (n : RegName) → reg_of r ≡ n → reg_is v n ≡ false
-      go name.None e = refl
-      go (name.Reg q) e =
+      go : (n : Option Register) → reg_of r ≡ n → reg_is v n ≡ false
+      go None e = refl
+      go (Some q) e =
           ne_eqb q.0 v (λ z. let w = number_read (drop 1 r) q.0 (after-read reg_word r q.0 (reg-number r q e)).1 in
           digit-last 0 (drop 1 r) w.some w.digits (rw (w.worth, z) (all_drop last_of 1 r h)))
 
@@ -104,9 +105,9 @@ module _ (v : ℕ) where
   reads-by l line.Other h = text-none l h
 
   -- nor store it
-  by-none : (n : RegName) (b : ℕ) (rhs : List ℕ) → reg_is v n ≡ false → stores_by v (store_by n b rhs) ≡ false
-  by-none name.None b rhs h = refl
-  by-none (name.Reg q) b rhs h = h
+  by-none : (n : Option Register) (b : ℕ) (rhs : List ℕ) → reg_is v n ≡ false → stores_by v (store_by n b rhs) ≡ false
+  by-none None b rhs h = refl
+  by-none (Some q) b rhs h = h
 
   split-none : (a : ℕ) (u : List ℕ) → all last_of u ≡ true → stores_by v (split_store a u) ≡ false
   split-none a u h = go (ltb (up_to 61 u) (length u) && not (eqb (get_or u (up_to 61 u + 1) 0) 61))

@@ -40,12 +40,6 @@ pub struct Sides {
     pub right: text::Span,
 }
 
-#[derive(Clone, Copy)]
-pub enum Assign {
-    Split(Sides),
-    None,
-}
-
 // Whether a line that is read already stores a register.
 fn stores_in(p: parse::Line, reg: names::Register) -> bool
     ensures { result ≡ stores_by reg.0 p }
@@ -135,12 +129,12 @@ fn plain_sides(u: &[u8], k: usize) -> bool
 }
 
 // The two sides of a text that ended in `;`, without it, split at its first `=`: most have one space on either side of it.
-fn sides_of(u: &[u8]) -> Assign
+fn sides_of(u: &[u8]) -> Option<Sides>
     ensures { result ≡ sides_of u.now }
 {
     let k = lines::find_byte(u, 0, b'=');
     if k >= u.len() {
-        return Assign::None;
+        return None;
     }
     if plain_sides(u, k) {
         let before = text::Span { from: 0, to: k - 1 };
@@ -148,7 +142,7 @@ fn sides_of(u: &[u8]) -> Assign
             from: k + 2,
             to: u.len(),
         };
-        return Assign::Split(Sides {
+        return Some(Sides {
             left: before,
             right: behind,
         });
@@ -160,19 +154,19 @@ fn sides_of(u: &[u8]) -> Assign
         from: b + v.from,
         to: b + v.to,
     };
-    Assign::Split(Sides { left, right })
+    Some(Sides { left, right })
 }
 
 // The two sides of a text that ends in `;`, split at its first `=`.
-pub fn assign_of(t: &[u8]) -> Assign
+pub fn assign_of(t: &[u8]) -> Option<Sides>
     ensures { result ≡ assign_of t.now }
 {
     let n = t.len();
     if n == 0 {
-        return Assign::None;
+        return None;
     }
     if t[n - 1] != b';' {
-        return Assign::None;
+        return None;
     }
     sides_of(&t[..n - 1])
 }

@@ -7,7 +7,7 @@ use Rattle.text.specs.Utf8Form.{seq_len}
 use Rattle.text.specs.Trim.{white_char, white_head, white_tail, lead, from_of, end_white, to_of, trim_of}
 use Rattle.names.specs.Names.{numbered, read_number, reg_of, is_temp, is_ident}
 use Rattle.names.specs.Inner.Names.{zeros}
-use Rattle.names.specs.declared.Number.TheVariants as number
+use Rattle.std.specs.declared.option.Option.TheVariants.{Some, None}
 use Rattle.words.specs.Hits.{hits_go, hits}
 use Rattle.expr.specs.Fix.{deep, fix}
 use Rattle.lexical.specs.Lex.{quote_len, quote_shut}
@@ -58,6 +58,6 @@ unfolding quoted up_to prefixed same cut_on parts_of is_white seq_len white_char
 by-modes = refl
 
 -- the key of `t7` is its number, `t07` and `t007` have others, and `t` and `r7` have none
-pub keys : map key_of (ascii "t7" ∷ ascii "t07" ∷ ascii "t007" ∷ ascii "t" ∷ ascii "r7" ∷ []) ≡ number.Of 7 ∷ number.Of (2 ^ 63 + 2 ^ 57 + 640) ∷ number.Of (2 ^ 63 + 2 ^ 58 + 1273) ∷ number.None ∷ number.None ∷ []
+pub keys : map key_of (ascii "t7" ∷ ascii "t07" ∷ ascii "t007" ∷ ascii "t" ∷ ascii "r7" ∷ []) ≡ Some 7 ∷ Some (2 ^ 63 + 2 ^ 57 + 640) ∷ Some (2 ^ 63 + 2 ^ 58 + 1273) ∷ None ∷ None ∷ []
 unfolding key_of prefixed zeros numbered read_number
 keys = refl

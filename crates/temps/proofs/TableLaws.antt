@@ -9,8 +9,8 @@ use Rattle.text.specs.Class.{is_name}
 use Rattle.text.specs.Trim.{from_of, to_of, trim_of}
 use Rattle.names.specs.Names.{decimal, temp_word, read_number, is_temp}
 use Rattle.names.specs.Inner.Names.{zeros}
-use Rattle.names.specs.declared.Number.{Number}
-use Rattle.names.specs.declared.Number.TheVariants as number
+use Rattle.std.specs.declared.option.Option.{Option}
+use Rattle.std.specs.declared.option.Option.TheVariants.{Some, None}
 use Rattle.names.proofs.Texts.{after-number, after-read}
 use Rattle.names.proofs.Decimal.{decimal-strip}
 use Rattle.parse.specs.Parse.{let_word, body_of, is_let}
@@ -24,61 +24,59 @@ use Rattle.slots.specs.Inner.Slots.{slot_of, entry_of, with_entry}
 use Rattle.slots.proofs.SlotLaws.{Placed, slot_kept, entry_length, entry-same, entry_other}
 use Rattle.temps.specs.Temps.{any_piece, declares, temp_reads, declared_in, temp_read}
 use Rattle.temps.specs.Inner.Table.{key_by, key_of, flag_at, flag_pieces, flag_decl, flag_decls, skip_after, flag_run, flag_runs, flag_reads, flag_lines, any_flag, reads_if, flag_by, Tells, TellsOf}
-use Rattle.temps.specs.declared.table.Flag.{Flag}
-use Rattle.temps.specs.declared.table.Flag.TheVariants as flag
 use Rattle.temps.proofs.TempLaws.{reads-bind, reads-words}
 
 -- ---- the key of a name
 
 module _ (s : List ℕ) where
-  pub key-other : prefixed temp_word s ≡ false → key_of s ≡ number.None
+  pub key-other : prefixed temp_word s ≡ false → key_of s ≡ None
   unfolding key_of
   key-other e = rw e
 
-  pub key-is : prefixed temp_word s ≡ true → {t : List ℕ} → t ≡ drop 1 s → (r : Number) → read_number t ≡ r → key_of s ≡ key_by (zeros t) r
+  pub key-is : prefixed temp_word s ≡ true → {t : List ℕ} → t ≡ drop 1 s → (r : Option ℕ) → read_number t ≡ r → key_of s ≡ key_by (zeros t) r
   unfolding key_of
   key-is e p r q = rw (e, ← p, q)
 
 -- what `key_of` answers, by what it calls
-pub key-made : (s : List ℕ) → prefixed temp_word s ≡ true → {t : List ℕ} → t ≡ drop 1 s → {n : ℕ} → read_number t ≡ number.Of n → {z : ℕ} → z ≡ zeros t → {r : Number} → r ≡ key_by z (number.Of n) → r ≡ key_of s
-key-made s e p {n} q y x = x ∙ ap (λ (z : ℕ). key_by z (number.Of n)) y ∙ sym (key-is s e p (number.Of n) q)
+pub key-made : (s : List ℕ) → prefixed temp_word s ≡ true → {t : List ℕ} → t ≡ drop 1 s → {n : ℕ} → read_number t ≡ Some n → {z : ℕ} → z ≡ zeros t → {r : Option ℕ} → r ≡ key_by z (Some n) → r ≡ key_of s
+key-made s e p {n} q y x = x ∙ ap (λ (z : ℕ). key_by z (Some n)) y ∙ sym (key-is s e p (Some n) q)
 
-key-empty : key_of [] ≡ number.None
+key-empty : key_of [] ≡ None
 unfolding key_of prefixed
 key-empty = refl
 
 -- the arms of a key
 module _ (n : ℕ) where
-  pub key-bare : n < 2 ^ 63 → key_by 0 (number.Of n) ≡ number.Of n
+  pub key-bare : n < 2 ^ 63 → key_by 0 (Some n) ≡ Some n
   key-bare h = rw (lt-ltb n (2 ^ 63) h)
 
-  pub key-high : 2 ^ 63 ≤ n → key_by 0 (number.Of n) ≡ number.None
+  pub key-high : 2 ^ 63 ≤ n → key_by 0 (Some n) ≡ None
   key-high h = rw (le-ltb n (2 ^ 63) h)
 
   module _ (z : ℕ) (p : z ≡ 0 → ⊥) where
-    pub key-led : z < 63 → n < 2 ^ 57 → key_by z (number.Of n) ≡ number.Of (2 ^ 63 + ((2 ^ 57 + 633) * z + n))
+    pub key-led : z < 63 → n < 2 ^ 57 → key_by z (Some n) ≡ Some (2 ^ 63 + ((2 ^ 57 + 633) * z + n))
     key-led g h = rw (ne_eqb z 0 p, lt-ltb z 63 g, lt-ltb n (2 ^ 57) h)
 
-    pub key-long : 63 ≤ z → key_by z (number.Of n) ≡ number.None
+    pub key-long : 63 ≤ z → key_by z (Some n) ≡ None
     key-long g = rw (ne_eqb z 0 p, le-ltb z 63 g)
 
-    pub key-great : 2 ^ 57 ≤ n → key_by z (number.Of n) ≡ number.None
+    pub key-great : 2 ^ 57 ≤ n → key_by z (Some n) ≡ None
     key-great h = rw (ne_eqb z 0 p, le-ltb n (2 ^ 57) h, and-false (ltb z 63))
 
 -- a number is not none, and is one
-none_of : {A : Type 0} (n : ℕ) → number.None ≡ number.Of n → A
+none_of : {A : Type 0} (n : ℕ) → None ≡ Some n → A
 none_of n h = no (ap some h)
   where
-    some : Number → Bool
-    some number.None = false
-    some (number.Of n) = true
+    some : Option ℕ → Bool
+    some None = false
+    some (Some n) = true
 
-of_one : (m n : ℕ) → number.Of m ≡ number.Of n → m ≡ n
+of_one : (m n : ℕ) → Some m ≡ Some n → m ≡ n
 of_one m n h = ap worth h
   where
-    worth : Number → ℕ
-    worth number.None = 0
-    worth (number.Of n) = n
+    worth : Option ℕ → ℕ
+    worth None = 0
+    worth (Some n) = n
 
 -- what a key is of: z zeros and the number n
 pub record Led (z n k : ℕ) : Type 0 where
@@ -87,10 +85,10 @@ pub record Led (z n k : ℕ) : Type 0 where
   pub fits : z ≡ 0 → n < 2 ^ 63
   pub small : (z ≡ 0 → ⊥) → n < 2 ^ 57
 
-key-by : (z n k : ℕ) → key_by z (number.Of n) ≡ number.Of k → Led z n k
+key-by : (z n k : ℕ) → key_by z (Some n) ≡ Some k → Led z n k
 key-by z n k h = go (eqb z 0) refl (ltb n (2 ^ 63)) refl (ltb z 63) refl (ltb n (2 ^ 57)) refl h
   where
-    go : (a : Bool) → eqb z 0 ≡ a → (b : Bool) → ltb n (2 ^ 63) ≡ b → (c : Bool) → ltb z 63 ≡ c → (d : Bool) → ltb n (2 ^ 57) ≡ d → cond a (cond b (number.Of n) number.None) (cond (c && d) (number.Of (2 ^ 63 + ((2 ^ 57 + 633) * z + n))) number.None) ≡ number.Of k → Led z n k
+    go : (a : Bool) → eqb z 0 ≡ a → (b : Bool) → ltb n (2 ^ 63) ≡ b → (c : Bool) → ltb z 63 ≡ c → (d : Bool) → ltb n (2 ^ 57) ≡ d → cond a (cond b (Some n) None) (cond (c && d) (Some (2 ^ 63 + ((2 ^ 57 + 633) * z + n))) None) ≡ Some k → Led z n k
     go true e true f c g d i h = record { low = λ p. absurd (p (eqb-true z 0 e)); bare = λ p. sym (of_one n k h); fits = λ p. ltb-true n (2 ^ 63) f; small = λ p. absurd (p (eqb-true z 0 e)) }
     go true e false f c g d i h = none_of k h
     go false e b f true g true i h = record { low = λ p. sym (of_one (2 ^ 63 + ((2 ^ 57 + 633) * z + n)) k h); bare = λ p. absurd (eqb-false z 0 e p); fits = λ p. absurd (eqb-false z 0 e p); small = λ p. ltb-true n (2 ^ 57) i }
@@ -131,12 +129,12 @@ pub record Keyed (s : List ℕ) (k : ℕ) : Type 0 where
   pub led : Led zs num k
   pub text : s ≡ temp_word ++ (replicate zs 48 ++ decimal num)
 
-key-text : (s : List ℕ) (k : ℕ) → key_of s ≡ number.Of k → Keyed s k
+key-text : (s : List ℕ) (k : ℕ) → key_of s ≡ Some k → Keyed s k
 key-text s k h = go (prefixed temp_word s) refl
   where
-    by : prefixed temp_word s ≡ true → (r : Number) → read_number (drop 1 s) ≡ r → key_by (zeros (drop 1 s)) r ≡ number.Of k → Keyed s k
-    by e number.None q h = none_of k h
-    by e (number.Of n) q h = record {
+    by : prefixed temp_word s ≡ true → (r : Option ℕ) → read_number (drop 1 s) ≡ r → key_by (zeros (drop 1 s)) r ≡ Some k → Keyed s k
+    by e None q h = none_of k h
+    by e (Some n) q h = record {
       zs = zeros (drop 1 s);
       num = n;
       led = key-by (zeros (drop 1 s)) n k h;
@@ -152,7 +150,7 @@ key-text s k h = go (prefixed temp_word s) refl
     go true e = by e (read_number (drop 1 s)) refl (sym (key-is s e refl (read_number (drop 1 s)) refl) ∙ h)
 
 -- so two names of one key are one text
-pub key_one : (s t : List ℕ) (k : ℕ) → key_of s ≡ number.Of k → key_of t ≡ number.Of k → s ≡ t
+pub key_one : (s t : List ℕ) (k : ℕ) → key_of s ≡ Some k → key_of t ≡ Some k → s ≡ t
 key_one s t k g h =
     let p = key-text s k g in
     let q = key-text t k h in
@@ -228,9 +226,9 @@ let-other l a p n =
 module _ (own : List ℕ) where
   -- ---- a flag, at the key n of the temp x
 
-  pub at_length : (r : Number) (d : List ℕ) → length (flag_at own r d) ≡ length d
-  at_length number.None d = refl
-  at_length (number.Of n) d = entry_length own d n 1
+  pub at_length : (r : Option ℕ) (d : List ℕ) → length (flag_at own r d) ≡ length d
+  at_length None d = refl
+  at_length (Some n) d = entry_length own d n 1
 
   set_tells : (m n : ℕ) (d : List ℕ) → Placed own n d → eqb (entry_of own n (with_entry own m 1 d)) 1 ≡ eqb m n || eqb (entry_of own n d) 1
   set_tells m n d h = go (eqb m n) refl
@@ -246,22 +244,22 @@ module _ (own : List ℕ) where
   swap false true c = refl
   swap false false c = refl
 
-  module _ (x : List ℕ) (n : ℕ) (q : key_of x ≡ number.Of n) where
+  module _ (x : List ℕ) (n : ℕ) (q : key_of x ≡ Some n) where
     -- a name has the key of x exactly where it is x
-    same_none : (r : List ℕ) → key_of r ≡ number.None → same r x ≡ false
+    same_none : (r : List ℕ) → key_of r ≡ None → same r x ≡ false
     same_none r e = go (same r x) refl
       where
         go : (b : Bool) → same r x ≡ b → same r x ≡ false
         go false f = f
         go true f = none_of n (sym e ∙ ap key_of (same-eq r x f) ∙ q)
 
-    same_number : (r : List ℕ) (m : ℕ) → key_of r ≡ number.Of m → eqb m n ≡ same r x
+    same_number : (r : List ℕ) (m : ℕ) → key_of r ≡ Some m → eqb m n ≡ same r x
     same_number r m e = go (eqb m n) refl (same r x) refl
       where
         go : (a : Bool) → eqb m n ≡ a → (b : Bool) → same r x ≡ b → a ≡ b
         go true g true f = refl
         go true g false f =
-            let z : r ≡ x = key_one r x n (e ∙ ap number.Of (eqb-true m n g)) q in
+            let z : r ≡ x = key_one r x n (e ∙ ap Some (eqb-true m n g)) q in
             sym (sym f ∙ ap (λ (l : List ℕ). same l x) z ∙ same_refl x)
         go false g true f = sym g ∙ eq-eqb m n (of_one m n (sym e ∙ ap key_of (same-eq r x f) ∙ q))
         go false g false f = refl
@@ -269,9 +267,9 @@ module _ (own : List ℕ) where
     at-tells : (r : List ℕ) (d : List ℕ) → Placed own n d → eqb (entry_of own n (flag_at own (key_of r) d)) 1 ≡ same r x || eqb (entry_of own n d) 1
     at-tells r d h = go (key_of r) refl
       where
-        go : (s : Number) → key_of r ≡ s → eqb (entry_of own n (flag_at own s d)) 1 ≡ same r x || eqb (entry_of own n d) 1
-        go number.None e = rw (same_none r e)
-        go (number.Of m) e = set_tells m n d h ∙ ap (λ (b : Bool). b || eqb (entry_of own n d) 1) (same_number r m e)
+        go : (s : Option ℕ) → key_of r ≡ s → eqb (entry_of own n (flag_at own s d)) 1 ≡ same r x || eqb (entry_of own n d) 1
+        go None e = rw (same_none r e)
+        go (Some m) e = set_tells m n d h ∙ ap (λ (b : Bool). b || eqb (entry_of own n d) 1) (same_number r m e)
 
   -- ---- the tables keep their length
 
@@ -321,7 +319,7 @@ module _ (own : List ℕ) where
 
   -- ---- declared temps
 
-  module _ (x : List ℕ) (n : ℕ) (q : key_of x ≡ number.Of n) where
+  module _ (x : List ℕ) (n : ℕ) (q : key_of x ≡ Some n) where
     pieces-tell : (ps : List (List ℕ)) (d : List ℕ) → Placed own n d → eqb (entry_of own n (flag_pieces own ps d)) 1 ≡ any_piece x ps || eqb (entry_of own n d) 1
     unfolding flag_pieces any_piece
     pieces-tell [] d h = refl
@@ -363,7 +361,7 @@ module _ (own : List ℕ) where
   less_one : (c : ℕ) → suc c - 1 ≡ c
   less_one c = omega arith
 
-  module _ (x : List ℕ) (n : ℕ) (q : key_of x ≡ number.Of n) (l : List ℕ) where
+  module _ (x : List ℕ) (n : ℕ) (q : key_of x ≡ Some n) (l : List ℕ) where
     -- one run: c is how many are x of those after it, and o what stood there before
     step : (r : List ℕ) (c : ℕ) (o k a b e : Bool) → same r l ≡ a → same r x ≡ b → same l x ≡ e →
         ltb 0 (c - cond ((k && not a) && e) 1 0) || cond (k && a) o (b || o) ≡ ltb 0 (cond b (suc c) c - cond (k && e) 1 0) || o
@@ -411,7 +409,7 @@ module _ (own : List ℕ) where
         ∙ ap (λ (b : Bool). ltb 0 (c - cond b 1 0) || cond (k && same r l) (eqb (entry_of own n d) 1) (same r x || eqb (entry_of own n d) 1)) (skip_is r k)
         ∙ step r c (eqb (entry_of own n d) 1) k (same r l) (same r x) (same l x) refl refl refl
 
-  module _ (x : List ℕ) (n : ℕ) (q : key_of x ≡ number.Of n) (p : is_temp x ≡ true) where
+  module _ (x : List ℕ) (n : ℕ) (q : key_of x ≡ Some n) (p : is_temp x ≡ true) where
     reads-tell : (t d : List ℕ) → Placed own n d → eqb (entry_of own n (flag_reads own t d)) 1 ≡ ltb 0 (temp_reads x t) || eqb (entry_of own n d) 1
     unfolding flag_reads
     reads-tell t d h = go (prefixed let_word t || (prefixed var_word t || prefixed const_word t)) refl
@@ -474,30 +472,30 @@ module _ (own : List ℕ) where
       ∙ ap (λ (b : Bool). temp_read x ls || b) (zeros-off k (slot_of (length (replicate {A = ℕ} k 0)) own n)) ∙ or-false (temp_read x ls)
 
   -- what it says of a temp
-  flag_is : (a b : Bool) → flag.Is a ≡ flag.Is b → a ≡ b
+  flag_is : (a b : Bool) → Some a ≡ Some b → a ≡ b
   flag_is a b h = ap worth h
     where
-      worth : Flag → Bool
-      worth flag.Past = false
-      worth (flag.Is b) = b
+      worth : Option Bool → Bool
+      worth None = false
+      worth (Some b) = b
 
-  flag-not : {A : Type 0} (b : Bool) → flag.Past ≡ flag.Is b → A
+  flag-not : {A : Type 0} (b : Bool) → None ≡ Some b → A
   flag-not b h = no (ap some h)
     where
-      some : Flag → Bool
-      some flag.Past = false
-      some (flag.Is b) = true
+      some : Option Bool → Bool
+      some None = false
+      some (Some b) = true
 
-  pub told : (f : List ℕ → Bool) (x d : List ℕ) (b : Bool) → ((n : ℕ) → key_of x ≡ number.Of n → Placed own n d → eqb (entry_of own n d) 1 ≡ f x) → (s : Number) → s ≡ key_of x → flag_by own s d ≡ flag.Is b → b ≡ f x
+  pub told : (f : List ℕ → Bool) (x d : List ℕ) (b : Bool) → ((n : ℕ) → key_of x ≡ Some n → Placed own n d → eqb (entry_of own n d) 1 ≡ f x) → (s : Option ℕ) → s ≡ key_of x → flag_by own s d ≡ Some b → b ≡ f x
   told f x d b t s q h = go s (sym q) h
     where
-      at : (n : ℕ) → key_of x ≡ number.Of n → (s : Bool) → ltb (slot_of (length d) own n) (length d) ≡ s → cond s (flag.Is (eqb (entry_of own n d) 1)) flag.Past ≡ flag.Is b → b ≡ f x
+      at : (n : ℕ) → key_of x ≡ Some n → (s : Bool) → ltb (slot_of (length d) own n) (length d) ≡ s → cond s (Some (eqb (entry_of own n d) 1)) None ≡ Some b → b ≡ f x
       at n q true e h = sym (flag_is _ b h) ∙ t n q (ltb-true (slot_of (length d) own n) (length d) e)
       at n q false e h = flag-not b h
 
-      go : (s : Number) → key_of x ≡ s → flag_by own s d ≡ flag.Is b → b ≡ f x
-      go number.None q h = flag-not b h
-      go (number.Of n) q h = at n q (ltb (slot_of (length d) own n) (length d)) refl h
+      go : (s : Option ℕ) → key_of x ≡ s → flag_by own s d ≡ Some b → b ≡ f x
+      go None q h = flag-not b h
+      go (Some n) q h = at n q (ltb (slot_of (length d) own n) (length d)) refl h
 
   -- ---- the loop over pieces: those from i on are still to be flagged
 
@@ -587,7 +585,7 @@ module _ (own : List ℕ) where
         both false = refl
 
         go : (r : List ℕ) → length r ≡ 0 → (k ≡ skip_after x r k) × (d ≡ cond (k && same r x) d (flag_at own (key_of r) d))
-        go [] h = (refl, both (k && same [] x) ∙ ap (λ (v : Number). cond (k && same [] x) d (flag_at own v d)) (sym key-empty))
+        go [] h = (refl, both (k && same [] x) ∙ ap (λ (v : Option ℕ). cond (k && same [] x) d (flag_at own v d)) (sym key-empty))
         go (y ∷ r) h = absurd (omega arith)
 
     skip-some : (k : Bool) → (length r ≡ 0 → ⊥) → skip_after x r k ≡ k && not (same r x)
@@ -703,13 +701,13 @@ module _ (own : List ℕ) where
 
   -- ---- what a table says of a name that has a key, at its place i
 
-  module _ (s : Number) (d : List ℕ) (n : ℕ) (q : s ≡ number.Of n) {i : ℕ} (p : i ≡ slot_of (length d) own n) where
-    pub by-here : i < length d → flag.Is (eqb (get_or d i 0) 1) ≡ flag_by own s d
+  module _ (s : Option ℕ) (d : List ℕ) (n : ℕ) (q : s ≡ Some n) {i : ℕ} (p : i ≡ slot_of (length d) own n) where
+    pub by-here : i < length d → Some (eqb (get_or d i 0) 1) ≡ flag_by own s d
     by-here h =
         let g : slot_of (length d) own n < length d = omega (arith, p, h) in
-        ap (λ (v : ℕ). flag.Is (eqb (get_or d v 0) 1)) p ∙ sym (rw (q, lt-ltb (slot_of (length d) own n) (length d) g))
+        ap (λ (v : ℕ). Some (eqb (get_or d v 0) 1)) p ∙ sym (rw (q, lt-ltb (slot_of (length d) own n) (length d) g))
 
-    pub by-past : length d ≤ i → flag.Past ≡ flag_by own s d
+    pub by-past : length d ≤ i → None ≡ flag_by own s d
     by-past h = let g : length d ≤ slot_of (length d) own n = omega (arith, p, h) in sym (rw (q, le-ltb (slot_of (length d) own n) (length d) g))
 
   -- and what setting its flag leaves there

@@ -80,8 +80,8 @@ fn is_store(t: &[u8], name: &[u8]) -> bool
     ensures { result ≡ is_assign t.now && same (left_of t.now) name.now }
 {
     match reading::assign_of(t) {
-        reading::Assign::Split(s) => lines::same(reading::left_of(t, s), name),
-        reading::Assign::None => false,
+        Some(s) => lines::same(reading::left_of(t, s), name),
+        None => false,
     }
 }
 
@@ -117,25 +117,25 @@ fn temp_read(text: &[u8], name: &[u8]) -> bool
 }
 
 // Whether some line of a text declares a temp: the table says so, where it reaches to it.
-fn is_declared(text: &[u8], own: &[usize], name: &[u8], key: names::Number, declared: &[u8]) -> bool
+fn is_declared(text: &[u8], own: &[usize], name: &[u8], key: Option<u64>, declared: &[u8]) -> bool
     requires { ((is_temp name.now ≡ true) × (key ≡ key_of name.now)) × (Tells own.now (λ (x : List ℕ). declared_in x (lines_of text.now)) declared.now) }
     ensures { result ≡ declared_in name.now (lines_of text.now) }
 {
     match table::flag_of(key, own, declared) {
-        table::Flag::Is(b) => b,
-        table::Flag::Past => declared_in(text, name),
+        Some(b) => b,
+        None => declared_in(text, name),
     }
 }
 
 // Whether some line of a text reads a temp that is declared: the table says so, where it reaches to it.
-fn is_read(text: &[u8], own: &[usize], name: &[u8], key: names::Number, read: &[u8]) -> bool
+fn is_read(text: &[u8], own: &[usize], name: &[u8], key: Option<u64>, read: &[u8]) -> bool
     requires { ((is_temp name.now ≡ true) × ((key ≡ key_of name.now) × (declared_in name.now (lines_of text.now) ≡ true)))
         × (TellsOf own.now (λ (x : List ℕ). declared_in x (lines_of text.now)) (λ (x : List ℕ). temp_read x (lines_of text.now)) read.now) }
     ensures { result ≡ temp_read name.now (lines_of text.now) }
 {
     match table::flag_of(key, own, read) {
-        table::Flag::Is(b) => b,
-        table::Flag::Past => temp_read(text, name),
+        Some(b) => b,
+        None => temp_read(text, name),
     }
 }
 
@@ -173,7 +173,7 @@ fn goes(
         return false;
     }
     match reading::assign_of(t) {
-        reading::Assign::Split(s) => {
+        Some(s) => {
             let name = reading::left_of(t, s);
             if !names::is_temp_name(name) {
                 return false;
@@ -187,7 +187,7 @@ fn goes(
             }
             is_dead(text, own, name, declared, read)
         }
-        reading::Assign::None => false,
+        None => false,
     }
 }
 

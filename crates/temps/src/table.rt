@@ -4,18 +4,11 @@ ghost use Rattle.parse.specs.Parse.{is_let};
 ghost use Rattle.lines.specs.Lf.{parts_of, lines_of};
 ghost use Rattle.text.specs.Trim.{trim_of};
 ghost use Rattle.words.specs.Runs.{runs};
-ghost use Rattle.names.specs.declared.Number.TheVariants.{Of};
+ghost use Rattle.std.specs.declared.option.Option.TheVariants.{Some};
 ghost use Rattle.slots.specs.Inner.Slots.{with_entry};
 ghost use Rattle.temps.specs.Inner.Table.{key_by, key_of, flag_at, flag_pieces, flag_decl, flag_decls, skip_after, flag_run, flag_runs, flag_reads, flag_lines, any_flag, reads_if, flag_by};
 
 use crate::is_binding;
-
-// What a table says of a key: whether its flag is set, or that it has no place there.
-#[derive(Clone, Copy)]
-pub enum Flag {
-    Is(bool),
-    Past,
-}
 
 // Keys from here on are those of temps with zeros in front: less than `MANY` of them, and a number below `GREAT`.
 const LED: u64 = 9223372036854775808;
@@ -28,35 +21,35 @@ const GREAT: u64 = 144115188075855872;
 const STRIDE: u64 = GREAT + 633;
 
 // The key of the number n behind z zeros.
-fn key_by(z: usize, n: u64) -> names::Number
+fn key_by(z: usize, n: u64) -> Option<u64>
     ensures { result ≡ key_by z (Of n) }
 {
     if z == 0 {
         if n < LED {
-            return names::Number::Of(n);
+            return Some(n);
         }
-        return names::Number::None;
+        return None;
     }
     if MANY <= z {
-        return names::Number::None;
+        return None;
     }
     if GREAT <= n {
-        return names::Number::None;
+        return None;
     }
-    names::Number::Of(LED + (STRIDE * z as u64 + n))
+    Some(LED + (STRIDE * z as u64 + n))
 }
 
 // The key of a temp: of `t7` it is 7, and of `t07` another.
-pub fn key_of(s: &[u8]) -> names::Number
+pub fn key_of(s: &[u8]) -> Option<u64>
     ensures { result ≡ key_of s.now }
 {
     if !lines::starts_with(s, b"t") {
-        return names::Number::None;
+        return None;
     }
     let d = lines::cut(s, 1, s.len());
     match names::read_number(d) {
-        names::Number::Of(n) => key_by(names::skip_zeros(d), n),
-        names::Number::None => names::Number::None,
+        Some(n) => key_by(names::skip_zeros(d), n),
+        None => None,
     }
 }
 
@@ -87,13 +80,13 @@ fn is_let(t: &[u8]) -> bool
 // Gives a temp that a declaration names a place among the owners, where its key is not below `low`.
 fn claim_temp(t: &[u8], low: usize, own: &mut [usize]) {
     match key_of(t) {
-        names::Number::Of(n) => {
+        Some(n) => {
             let v = n as usize;
             if low <= v {
                 slots::claim(v, own);
             }
         }
-        names::Number::None => {}
+        None => {}
     }
 }
 
@@ -175,8 +168,8 @@ fn flag_temp(t: &[u8], own: &[usize], table: &mut [u8])
     ensures { table.new ≡ flag_at own.now (key_of t.now) table.old }
 {
     match key_of(t) {
-        names::Number::Of(n) => flag_at(n, own, table),
-        names::Number::None => {}
+        Some(n) => flag_at(n, own, table),
+        None => {}
     }
 }
 
@@ -268,8 +261,8 @@ fn flag_reads(t: &[u8], own: &[usize], table: &mut [u8])
         return;
     }
     match reading::assign_of(t) {
-        reading::Assign::Split(s) => flag_runs(t, own, reading::left_of(t, s), true, table),
-        reading::Assign::None => flag_runs(t, own, t, false, table),
+        Some(s) => flag_runs(t, own, reading::left_of(t, s), true, table),
+        None => flag_runs(t, own, t, false, table),
     }
 }
 
@@ -305,17 +298,17 @@ pub fn flag_used(text: &[u8], own: &[usize], declared: &[u8], table: &mut [u8])
 }
 
 // What a table says of a key.
-pub fn flag_of(key: names::Number, own: &[usize], table: &[u8]) -> Flag
+pub fn flag_of(key: Option<u64>, own: &[usize], table: &[u8]) -> Option<bool>
     ensures { result ≡ flag_by own.now key table.now }
 {
     match key {
-        names::Number::Of(n) => {
+        Some(n) => {
             let v = slots::slot(n as usize, table.len(), own);
             if v < table.len() {
-                return Flag::Is(table[v] == 1);
+                return Some(table[v] == 1);
             }
-            Flag::Past
+            None
         }
-        names::Number::None => Flag::Past,
+        None => None,
     }
 }

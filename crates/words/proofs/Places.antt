@@ -21,7 +21,7 @@ use Rattle.lines.proofs.Compare.{same-eq}
 use Rattle.names.proofs.Equal.{front_of, same-front}
 use Rattle.names.proofs.Texts.{reg-text-names}
 use Rattle.words.specs.Inner.Runs.{run_len, run_hits_from, run_hits, hits_at, NextRun}
-use Rattle.words.specs.declared.Hit.TheVariants.{One, Not}
+use Rattle.std.specs.declared.option.Option.TheVariants.{Some, None}
 use Rattle.words.specs.Hits.{hit_here, hits_go, hits, one_hit, reg_hit, glue_left, glue_right, glued, replaced_at}
 use Rattle.words.proofs.RunLaws.{run_length}
 use Rattle.words.proofs.HitLaws.{hits-runs}
@@ -52,7 +52,7 @@ module _ (p s : List ℕ) where
       go false q f = f 0
   at-hits (x ∷ xs) (suc k) i b e = at-hits xs k (suc i) (is_name x) (ap (drop 1) e ∙ drop-drop 1 i s ∙ ap (λ (n : ℕ). drop n s) (add-one i))
 
-one-is : (n : ℕ) (w : Span) (is : List ℕ) → one_hit n is ≡ One w → (is ≡ w.from ∷ []) × (w.to ≡ w.from + n)
+one-is : (n : ℕ) (w : Span) (is : List ℕ) → one_hit n is ≡ Some w → (is ≡ w.from ∷ []) × (w.to ≡ w.from + n)
 unfolding one_hit
 one-is n w [] e = let z : ◌≡◌ {A = ℕ} 0 1 = cc in absurd (omega arith)
 one-is n w (i ∷ []) e = let a : i ≡ w.from = cc in let b : i + n ≡ w.to = cc in (cc, omega arith)
@@ -67,7 +67,7 @@ pub record Stands (v : ℕ) (l : List ℕ) (w : Span) : Type 0 where
   pub inside : w.to ≤ length l
   pub text : part w.from w.to l ≡ reg_text v
 
-pub hit-stands : (v : ℕ) (l : List ℕ) (w : Span) → reg_hit v l ≡ One w → Stands v l w
+pub hit-stands : (v : ℕ) (l : List ℕ) (w : Span) → reg_hit v l ≡ Some w → Stands v l w
 unfolding reg_hit hits
 hit-stands v l w e =
     let p : List ℕ = reg_text v in
@@ -101,7 +101,7 @@ module _ (v : ℕ) (s : List ℕ) (fits : v < 2 ^ 64) where
   hit-run = ap (one_hit (length (reg_text v))) (hits-runs (reg_text v) (omega arith) (reg-text-names v fits) s)
 
   module _ {a : ℕ} (h : NextRun (reg_run v) s 0 a) where
-    pub find_none : length s ≤ a → reg_hit v s ≡ Not
+    pub find_none : length s ≤ a → reg_hit v s ≡ None
     unfolding one_hit run_hits
     find_none l = hit-run ∙ ap (one_hit (length (reg_text v))) h.hits ∙ rw (le-ltb a (length s) l)
 
@@ -110,17 +110,17 @@ module _ (v : ℕ) (s : List ℕ) (fits : v < 2 ^ 64) where
       unfolding run_hits
       found = h.hits ∙ rw (lt-ltb a (length s) l) (ap (λ (n : ℕ). a ∷ run_hits_from (reg_run v) s n) (sym q) ∙ ap (λ (r : List ℕ). a ∷ r) k.hits)
 
-      pub find-two : b < length s → reg_hit v s ≡ Not
+      pub find-two : b < length s → reg_hit v s ≡ None
       unfolding one_hit
       find-two m = hit-run ∙ ap (one_hit (length (reg_text v))) found ∙ rw (lt-ltb b (length s) m)
 
-      pub find-one : length s ≤ b → reg_hit v s ≡ One (record { from = a; to = e })
+      pub find-one : length s ≤ b → reg_hit v s ≡ Some (record { from = a; to = e })
       unfolding one_hit
       find-one m =
           let w : part a e s ≡ reg_text v = same-eq (part a e s) (reg_text v) (ap (λ (n : ℕ). reg_run v (part a n s)) q ∙ h.passes l) in
           let n : a ≤ length s = omega arith in
           let z : a + length (reg_text v) ≡ e = omega (arith, ap length w, run_length s a e n q) in
-          hit-run ∙ ap (one_hit (length (reg_text v))) found ∙ rw (le-ltb b (length s) m) (ap (λ (n : ℕ). One (record { from = a; to = n })) z)
+          hit-run ∙ ap (one_hit (length (reg_text v))) found ∙ rw (le-ltb b (length s) m) (ap (λ (n : ℕ). Some (record { from = a; to = n })) z)
 
 -- ---- what a replacement makes
 
@@ -139,7 +139,7 @@ replace-length from to l rep h k =
     omega (arith, length-append (take from l ++ glued (take from l) rep (drop to l)) (drop to l), length-append (take from l) (glued (take from l) rep (drop to l)), length-take from l, length-drop to l, glued-le (take from l) rep (drop to l))
 
 -- a register's text has two bytes or more, so that the line grows by no more than the replacement
-pub replace-hit : (v : ℕ) (l rep : List ℕ) (w : Span) → reg_hit v l ≡ One w → length (replaced_at w.from w.to l rep) ≤ length l + length rep
+pub replace-hit : (v : ℕ) (l rep : List ℕ) (w : Span) → reg_hit v l ≡ Some w → length (replaced_at w.from w.to l rep) ≤ length l + length rep
 replace-hit v l rep w e =
     let s = hit-stands v l w e in
     let d = decimal-long v in

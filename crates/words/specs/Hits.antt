@@ -6,8 +6,9 @@ use Rattle.lines.specs.Lf.{prefixed, suffixed, ends_in}
 use Rattle.text.specs.Class.{is_name}
 use Rattle.text.specs.Trim.{trim_start, trim_end}
 use Rattle.names.specs.Names.{is_digit, reg_text}
-use Rattle.words.specs.declared.Hit.{Hit}
-use Rattle.words.specs.declared.Hit.TheVariants.{One, Not}
+use Rattle.std.specs.declared.option.Option.{Option}
+use Rattle.text.specs.declared.Span.{Span}
+use Rattle.std.specs.declared.option.Option.TheVariants.{Some, None}
 
 -- a find of p at the place i is a hit where no name byte stands before it (b) or after it
 abbrev pub hit_here : List ℕ → List ℕ → ℕ → Bool → List ℕ
@@ -29,13 +30,13 @@ unfolding hits_go
 hits p l = hits_go l p 0 0 false
 
 -- the one hit, where there is exactly one; n is the length of what was looked for
-unfoldable pub one_hit : ℕ → List ℕ → Hit
-one_hit n [] = Not
-one_hit n (i ∷ []) = One (record { from = i; to = i + n })
-one_hit n (i ∷ j ∷ is) = Not
+unfoldable pub one_hit : ℕ → List ℕ → Option Span
+one_hit n [] = None
+one_hit n (i ∷ []) = Some (record { from = i; to = i + n })
+one_hit n (i ∷ j ∷ is) = None
 
 -- the one place at which `r{v}` stands
-unfoldable pub reg_hit : ℕ → List ℕ → Hit
+unfoldable pub reg_hit : ℕ → List ℕ → Option Span
 unfolding one_hit hits
 reg_hit v l = one_hit (length (reg_text v)) (hits (reg_text v) l)
 
@@ -80,9 +81,9 @@ unfolding glued
 replaced_at from to l rep = take from l ++ glued (take from l) rep (drop to l) ++ drop to l
 
 -- the line that `replace_reg` makes, or none
-abbrev pub replace_by : Hit → List ℕ → List ℕ → List (List ℕ)
-replace_by Not l rep = []
-replace_by (One w) l rep = replaced_at w.from w.to l rep ∷ []
+abbrev pub replace_by : Option Span → List ℕ → List ℕ → List (List ℕ)
+replace_by None l rep = []
+replace_by (Some w) l rep = replaced_at w.from w.to l rep ∷ []
 
 -- `replace_reg`: the line with register v replaced, where it stands exactly once
 unfoldable pub replace_reg : ℕ → List ℕ → List ℕ → List (List ℕ)

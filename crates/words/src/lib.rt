@@ -9,13 +9,6 @@ ghost use Rattle.words.specs.Runs.{reads_of};
 ghost use Rattle.words.specs.Inner.Runs.{gap_len, run_len, reg_gap, after_name, short_at, words_of, NextRun};
 ghost use Rattle.words.specs.Hits.{reg_hit, after_new, as_target, glue_left, glue_right, glued, replaced_at};
 
-// The one place of a search, or not exactly one.
-#[derive(Clone, Copy)]
-pub enum Hit {
-    One(text::Span),
-    Not,
-}
-
 // The place of the first name byte from a place on, or the end.
 fn run_start(s: &[u8], i: usize) -> usize
     ensures { result ≡ i + gap_len (drop i s.now) }
@@ -175,20 +168,20 @@ fn next_reg(s: &[u8], i: usize, reg: names::Register) -> usize
 }
 
 // The one place at which a register stands as it is printed, with no name byte on either side.
-pub fn find_reg(s: &[u8], reg: names::Register) -> Hit
+pub fn find_reg(s: &[u8], reg: names::Register) -> Option<text::Span>
     ensures { result ≡ reg_hit reg.0 s.now }
 {
     let n = s.len();
     let a = next_reg(s, 0, reg);
     if n <= a {
-        return Hit::Not;
+        return None;
     }
     let e = run_end(s, a);
     let b = next_reg(s, e, reg);
     if b < n {
-        return Hit::Not;
+        return None;
     }
-    Hit::One(text::Span { from: a, to: e })
+    Some(text::Span { from: a, to: e })
 }
 
 // Whether what stands before a place ends in `new`.

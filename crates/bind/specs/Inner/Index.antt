@@ -4,8 +4,9 @@ use Rattle.std.specs.Prelude.{ℕ, suc, ◌+◌, ◌-◌, ◌≤◌, ◌<◌, �
 use Rattle.lines.specs.Lf.{part, lines_of}
 use Rattle.text.specs.Trim.{trim_of}
 use Rattle.names.specs.Names.{reg_of}
-use Rattle.names.specs.declared.RegName.{RegName}
-use Rattle.names.specs.declared.RegName.TheVariants as name
+use Rattle.std.specs.declared.option.Option.{Option}
+use Rattle.names.specs.declared.Register.{Register}
+use Rattle.std.specs.declared.option.Option.TheVariants.{Some, None}
 use Rattle.parse.specs.Parse.{is_decl, parse_of, text_of}
 use Rattle.parse.specs.declared.Line.{Line}
 use Rattle.parse.specs.declared.Line.TheVariants as line
@@ -27,9 +28,9 @@ abbrev pub after_read : ℕ → ℕ → ℕ
 after_read b x = cond (ltb x b) b x
 
 -- the table u after a read of the register that a name is
-abbrev pub read_name : List ℕ → ℕ → RegName → List ℕ → List ℕ
-read_name own b name.None u = u
-read_name own b (name.Reg q) u = with_entry own q.0 (after_read b (entry_of own q.0 u)) u
+abbrev pub read_name : List ℕ → ℕ → Option Register → List ℕ → List ℕ
+read_name own b None u = u
+read_name own b (Some q) u = with_entry own q.0 (after_read b (entry_of own q.0 u)) u
 
 -- after the reads of the registers that runs name
 unfoldable pub read_runs : List ℕ → ℕ → List (List ℕ) → List ℕ → List ℕ
@@ -60,9 +61,9 @@ abbrev pub again_reg : List ℕ → ℕ → ℕ → ℕ → List ℕ → List �
 again_reg own m b v d u = cond (ltb (entry_of own v d) m) u (with_entry own v b u)
 
 -- after a name
-abbrev pub again_name : List ℕ → ℕ → ℕ → RegName → List ℕ → List ℕ → List ℕ
-again_name own m b name.None d u = u
-again_name own m b (name.Reg q) d u = again_reg own m b q.0 d u
+abbrev pub again_name : List ℕ → ℕ → ℕ → Option Register → List ℕ → List ℕ → List ℕ
+again_name own m b None d u = u
+again_name own m b (Some q) d u = again_reg own m b q.0 d u
 
 -- the table d after pieces
 unfoldable pub seen_pieces : List ℕ → ℕ → List (List ℕ) → List ℕ → List ℕ

@@ -7,8 +7,9 @@ use Rattle.lines.specs.Acts.{Act, keep, become, into, gone}
 use Rattle.origins.specs.Inner.Codes.{far_move}
 use Rattle.text.specs.Trim.{from_of, trim_of}
 use Rattle.names.specs.Names.{reg_of}
-use Rattle.names.specs.declared.RegName.{RegName}
-use Rattle.names.specs.declared.RegName.TheVariants as name
+use Rattle.std.specs.declared.option.Option.{Option}
+use Rattle.names.specs.declared.Register.{Register}
+use Rattle.std.specs.declared.option.Option.TheVariants.{Some, None}
 use Rattle.parse.specs.Parse.{body_of, is_decl}
 use Rattle.decls.specs.Inner.Print.{kept, decl_text}
 use Rattle.reading.specs.Reading.{Reading}
@@ -56,14 +57,14 @@ mark_row t s v = s.row + suc (use_row v (below_of t s))
 -- ---- pieces of a declaration, by any test f of registers
 
 -- a name is a register that passes
-abbrev pub passes : (ℕ → Bool) → RegName → Bool
-passes f name.None = false
-passes f (name.Reg q) = f q.0
+abbrev pub passes : (ℕ → Bool) → Option Register → Bool
+passes f None = false
+passes f (Some q) = f q.0
 
 -- a name is a register that does not
-abbrev pub fails : (ℕ → Bool) → RegName → Bool
-fails f name.None = false
-fails f (name.Reg q) = not (f q.0)
+abbrev pub fails : (ℕ → Bool) → Option Register → Bool
+fails f None = false
+fails f (Some q) = not (f q.0)
 
 -- a text names one that does not
 abbrev pub left : (ℕ → Bool) → List ℕ → Bool
@@ -75,9 +76,9 @@ any_pass f [] = false
 any_pass f (p ∷ ps) = passes f (reg_of (trim_of p)) || any_pass f ps
 
 -- the table of marks m after a name: where it passes, its entry g is 1
-abbrev pub noted : (ℕ → Bool) → (ℕ → ℕ) → RegName → List ℕ → List ℕ
-noted f g name.None m = m
-noted f g (name.Reg q) m = cond (f q.0) (set m (g q.0) 1) m
+abbrev pub noted : (ℕ → Bool) → (ℕ → ℕ) → Option Register → List ℕ → List ℕ
+noted f g None m = m
+noted f g (Some q) m = cond (f q.0) (set m (g q.0) 1) m
 
 -- and after all pieces
 unfoldable pub noted_all : (ℕ → Bool) → (ℕ → ℕ) → List (List ℕ) → List ℕ → List ℕ

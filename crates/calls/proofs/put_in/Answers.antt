@@ -11,22 +11,22 @@ use Rattle.calls.proofs.put_in.Goals as goal
 pub returns-then-as_target : goal.returns-then-as_target
 returns-then-as_target c =
     let a = c.args in
-    as-end refl (put-target plain a.line.now a.reg.0 a.value.now c.in-One.w (sym c.find_reg.ensures ∙ c.in-One.is) (so c.as_target.ensures c.if-as_target.true))
+    as-end refl (put-target plain a.line.now a.reg.0 a.value.now c.in-Some.w (sym c.find_reg.ensures ∙ c.in-Some.is) (so c.as_target.ensures c.if-as_target.true))
 
 pub put_value-n-requires : goal.put_value-n-requires
 put_value-n-requires c =
     let a = c.args in
     let p = c.requires in
     let n = paren-length a.value.now c.after_new-after.result in
-    omega (arith, p, n, replace-hit a.reg.0 a.line.now (paren_if_needed a.value.now c.after_new-after.result) c.in-One.w (sym c.find_reg.ensures ∙ c.in-One.is))
+    omega (arith, p, n, replace-hit a.reg.0 a.line.now (paren_if_needed a.value.now c.after_new-after.result) c.in-Some.w (sym c.find_reg.ensures ∙ c.in-Some.is))
 
 pub returns-else-as_target : goal.returns-else-as_target
 returns-else-as_target c =
     let a = c.args in
     let p = c.put_value-n.ensures in
-    as-puts (put_one plain a.line.now a.reg.0 a.value.now c.in-One.w (sym c.find_reg.ensures ∙ c.in-One.is) (so c.as_target.ensures c.if-as_target.false) _ c.after_new-after.ensures) p
+    as-puts (put_one plain a.line.now a.reg.0 a.value.now c.in-Some.w (sym c.find_reg.ensures ∙ c.in-Some.is) (so c.as_target.ensures c.if-as_target.false) _ c.after_new-after.ensures) p
 
-pub returns-in-Not : goal.returns-in-Not
-returns-in-Not c =
+pub returns-in-None : goal.returns-in-None
+returns-in-None c =
     let a = c.args in
-    as-end refl (put-none plain a.line.now a.reg.0 a.value.now (sym c.find_reg.ensures ∙ c.in-Not.is))
+    as-end refl (put-none plain a.line.now a.reg.0 a.value.now (sym c.find_reg.ensures ∙ c.in-None.is))

@@ -122,7 +122,7 @@ pub cut-requires-else-owner-k-ne0 : goal.cut-requires-else-owner-k-ne0
 cut-requires-else-owner-k-ne0 c = tt
 
 pub put-c-requires : goal.put-c-requires
-put-c-requires c = new-room (climb-in c.loop-k.invariant c.loop-k-test.true) c.if-owner-k-ne0.false _ c.line_start-b.ensures _ c.cut-x.ensures c.in-Store.s (sym c.parse-read.ensures ∙ c.in-Store.is) _ c.value_of-v.ensures _ c.may_go.ensures c.if-not-may_go.false _ _ _ c.cut-line.ensures c.cut-under.ensures c.cut-taken.ensures c.absorb-made.ensures c.in-Line.is _ c.cut-else-owner-k-ne0.ensures
+put-c-requires c = new-room (climb-in c.loop-k.invariant c.loop-k-test.true) c.if-owner-k-ne0.false _ c.line_start-b.ensures _ c.cut-x.ensures c.in-Store.s (sym c.parse-read.ensures ∙ c.in-Store.is) _ c.value_of-v.ensures _ c.may_go.ensures c.if-not-may_go.false _ _ _ c.cut-line.ensures c.cut-under.ensures c.cut-taken.ensures c.absorb-made.ensures c.in-Some.is _ c.cut-else-owner-k-ne0.ensures
 
 pub overflow_sub-owner : goal.overflow_sub-owner
 overflow_sub-owner c = turn_in (climb-in c.loop-k.invariant c.loop-k-test.true)
@@ -149,7 +149,7 @@ pub loop-k-smaller : goal.loop-k-smaller
 loop-k-smaller c = omega (arith, step-some (climb-in c.loop-k.invariant c.loop-k-test.true))
 
 pub loop-k-preserved : goal.loop-k-preserved
-loop-k-preserved c = absorb-on (climb-in c.loop-k.invariant c.loop-k-test.true) c.if-owner-k-ne0.false _ c.line_start-b.ensures _ c.cut-x.ensures c.in-Store.s (sym c.parse-read.ensures ∙ c.in-Store.is) _ c.value_of-v.ensures _ c.may_go.ensures c.if-not-may_go.false _ _ _ c.cut-line.ensures c.cut-under.ensures c.cut-taken.ensures c.absorb-made.ensures c.in-Line.is _ c.cut-else-owner-k-ne0.ensures c.put-c.ensures _ c.line_start-q.ensures _ c.cut-above.ensures _ c.is_header-over-else-owner-k-ne0.ensures
+loop-k-preserved c = absorb-on (climb-in c.loop-k.invariant c.loop-k-test.true) c.if-owner-k-ne0.false _ c.line_start-b.ensures _ c.cut-x.ensures c.in-Store.s (sym c.parse-read.ensures ∙ c.in-Store.is) _ c.value_of-v.ensures _ c.may_go.ensures c.if-not-may_go.false _ _ _ c.cut-line.ensures c.cut-under.ensures c.cut-taken.ensures c.absorb-made.ensures c.in-Some.is _ c.cut-else-owner-k-ne0.ensures c.put-c.ensures _ c.line_start-q.ensures _ c.cut-above.ensures _ c.is_header-over-else-owner-k-ne0.ensures
 
 pub shape_of-owner-after-loop-k : goal.shape_of-owner-after-loop-k
 shape_of-owner-after-loop-k c = c.loop-k.invariant.same-owner

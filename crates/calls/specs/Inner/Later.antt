@@ -3,8 +3,9 @@
 use Rattle.std.specs.Prelude.{ℕ, suc, ◌+◌, ◌-◌, ◌*◌, ◌/◌, ◌≤◌, ◌<◌, max, ◌≡◌, Bool, true, false, cond, ◌&&◌, List, [], ◌∷◌, ltb, length, drop, get_or, set}
 use Rattle.lines.specs.Lf.{lines_of}
 use Rattle.names.specs.Names.{reg_of}
-use Rattle.names.specs.declared.RegName.{RegName}
-use Rattle.names.specs.declared.RegName.TheVariants as name
+use Rattle.std.specs.declared.option.Option.{Option}
+use Rattle.names.specs.declared.Register.{Register}
+use Rattle.std.specs.declared.option.Option.TheVariants.{Some, None}
 use Rattle.parse.specs.declared.Line.{Line}
 use Rattle.parse.specs.declared.Line.TheVariants as line
 use Rattle.reading.specs.Reading.{plain}
@@ -21,9 +22,9 @@ abbrev pub read_in : List ℕ → ℕ → ℕ → ℕ → List ℕ → List ℕ
 read_in own c h v d = cond (ltb h (entry_of own v d)) d (with_entry own v c d)
 
 -- so of the register that a name is
-abbrev pub read_name : List ℕ → ℕ → ℕ → RegName → List ℕ → List ℕ
-read_name own c h name.None d = d
-read_name own c h (name.Reg q) d = read_in own c h q.0 d
+abbrev pub read_name : List ℕ → ℕ → ℕ → Option Register → List ℕ → List ℕ
+read_name own c h None d = d
+read_name own c h (Some q) d = read_in own c h q.0 d
 
 -- so of the registers that runs name
 unfoldable pub read_runs : List ℕ → ℕ → ℕ → List (List ℕ) → List ℕ → List ℕ

@@ -4,8 +4,8 @@ use Prim.Native.Char.{code}
 use Rattle.lines.specs.Ascii.{ascii}
 use Rattle.lines.specs.Lf.{holds}
 use Rattle.lines.specs.Inner.Out.{Wrote}
-use Rattle.calls.specs.declared.Made.{Made}
-use Rattle.calls.specs.declared.Made.TheVariants as made
+use Rattle.std.specs.declared.option.Option.{Option}
+use Rattle.std.specs.declared.option.Option.TheVariants.{Some, None}
 use Rattle.forms.specs.Breaks.{breaks}
 use Rattle.reading.specs.Reading.{Reading}
 use Rattle.reading.specs.Uses.{line_reads}
@@ -38,6 +38,6 @@ abbrev pub wrapped_call : List ℕ → List ℕ
 wrapped_call v = code "(" ∷ v ++ ascii ")"
 
 -- a step in a lent buffer d, which is d' then and keeps its length: the line that it makes stands at the front of it, or there is none
-pub data PutAs (d : List ℕ) : Step → List ℕ → Made → Type 0 where
-  ends : {d' : List ℕ} → length d' ≡ length d → PutAs d end d' made.Nothing
-  puts : {next d₁ d' : List ℕ} {n : ℕ} → length d₁ ≡ length d → Wrote d₁ 0 next d' n → PutAs d (absorb next) d' (made.Line n)
+pub data PutAs (d : List ℕ) : Step → List ℕ → Option ℕ → Type 0 where
+  ends : {d' : List ℕ} → length d' ≡ length d → PutAs d end d' None
+  puts : {next d₁ d' : List ℕ} {n : ℕ} → length d₁ ≡ length d → Wrote d₁ 0 next d' n → PutAs d (absorb next) d' (Some n)

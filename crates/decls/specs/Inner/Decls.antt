@@ -3,15 +3,16 @@ use Rattle.std.specs.Prelude.{ℕ, Bool, false, List}
 use Rattle.lines.specs.Lf.{unlines}
 use Rattle.lines.specs.Acts.{act}
 use Rattle.names.specs.Names.{reg_of}
-use Rattle.names.specs.declared.RegName.{RegName}
-use Rattle.names.specs.declared.RegName.TheVariants as name
+use Rattle.std.specs.declared.option.Option.{Option}
+use Rattle.names.specs.declared.Register.{Register}
+use Rattle.std.specs.declared.option.Option.TheVariants.{Some, None}
 use Rattle.reading.specs.Uses.{used_in}
 use Rattle.decls.specs.Decls.{act_of}
 
 -- some line of the region reads or stores the register that a name is
-abbrev pub stays_by : List (List ℕ) → RegName → Bool
-stays_by run name.None = false
-stays_by run (name.Reg q) = used_in q.0 run
+abbrev pub stays_by : List (List ℕ) → Option Register → Bool
+stays_by run None = false
+stays_by run (Some q) = used_in q.0 run
 
 -- the same of a text that names it
 abbrev pub stays : List (List ℕ) → List ℕ → Bool

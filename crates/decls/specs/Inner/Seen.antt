@@ -5,8 +5,9 @@ use Rattle.lines.specs.Lf.{part, up_to}
 use Rattle.text.specs.Class.{is_name}
 use Rattle.text.specs.Trim.{trim_of}
 use Rattle.names.specs.Names.{reg_of}
-use Rattle.names.specs.declared.RegName.{RegName}
-use Rattle.names.specs.declared.RegName.TheVariants as name
+use Rattle.std.specs.declared.option.Option.{Option}
+use Rattle.names.specs.declared.Register.{Register}
+use Rattle.std.specs.declared.option.Option.TheVariants.{Some, None}
 use Rattle.parse.specs.Parse.{is_decl, parse_of, text_of}
 use Rattle.parse.specs.declared.Line.{Line}
 use Rattle.parse.specs.declared.Line.TheVariants as line
@@ -17,9 +18,9 @@ use Rattle.reading.specs.Uses.{used_in}
 use Rattle.slots.specs.Inner.Slots.{slot_of, entry_of, with_entry}
 
 -- the table d after the mark m of the register that a name is; a register that has no place in it leaves it as it is
-abbrev pub mark_name : List ℕ → ℕ → RegName → List ℕ → List ℕ
-mark_name own m name.None d = d
-mark_name own m (name.Reg q) d = with_entry own q.0 m d
+abbrev pub mark_name : List ℕ → ℕ → Option Register → List ℕ → List ℕ
+mark_name own m None d = d
+mark_name own m (Some q) d = with_entry own q.0 m d
 
 -- after the marks of the registers that runs name
 unfoldable pub mark_runs : List ℕ → ℕ → List (List ℕ) → List ℕ → List ℕ
@@ -68,9 +69,9 @@ abbrev pub asked_in : List ℕ → ℕ → List ℕ → List (List ℕ) → ℕ 
 asked_in own m d run v = cond (ltb (slot_of (length d) own v) (length d)) (eqb (entry_of own v d) m) (used_in v run)
 
 -- and for the register that a name is
-abbrev pub seen_stays : List ℕ → ℕ → List ℕ → List (List ℕ) → RegName → Bool
-seen_stays own m d run name.None = false
-seen_stays own m d run (name.Reg q) = asked_in own m d run q.0
+abbrev pub seen_stays : List ℕ → ℕ → List ℕ → List (List ℕ) → Option Register → Bool
+seen_stays own m d run None = false
+seen_stays own m d run (Some q) = asked_in own m d run q.0
 
 -- no line from the place i up to j is a header or a declaration; e is where such a line ends, and k the place after it
 pub data Quiet (t : List ℕ) : ℕ → ℕ → Type 0 where

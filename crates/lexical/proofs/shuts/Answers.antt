@@ -1,9 +1,9 @@
 use Rattle.lexical.specs.Joined.{shut_in}
 use Rattle.lexical.proofs.shuts.Goals as goal
 
-pub returns-in-Nothing : goal.returns-in-Nothing
+pub returns-in-None : goal.returns-in-None
 unfolding shut_in
-returns-in-Nothing c = rw c.in-Nothing.is
+returns-in-None c = rw c.in-None.is
 
 pub returns-in-Comment : goal.returns-in-Comment
 unfolding shut_in

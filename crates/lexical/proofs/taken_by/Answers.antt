@@ -2,9 +2,9 @@ use native.Mathlib.Omega.{arith}
 use Rattle.lexical.specs.Joined.{taken}
 use Rattle.lexical.proofs.taken_by.Goals as goal
 
-pub returns-in-Nothing : goal.returns-in-Nothing
+pub returns-in-None : goal.returns-in-None
 unfolding taken
-returns-in-Nothing c = rw c.in-Nothing.is
+returns-in-None c = rw c.in-None.is
 
 pub returns-in-Comment : goal.returns-in-Comment
 unfolding taken

@@ -11,8 +11,8 @@ returns-then-n-m c = lines-many c.args.m c.args.form c.args.text.now (Done 0) (o
 pub returns-then-is_wide : goal.returns-then-is_wide
 returns-then-is_wide c = lines-wide c.args.m c.args.form c.args.text.now (Done 0) (omega (arith, c.if-n-m.false, c.count_lines-n.ensures)) (sym (ap (is_wide c.args.form) c.count_lines-n.ensures) ∙ sym c.is_wide.ensures ∙ c.if-is_wide.true)
 
-pub returns-in-At : goal.returns-in-At
-returns-in-At c = lines-few c.args.m c.args.form c.args.text.now (Done 0) (omega (arith, c.if-n-m.false, c.count_lines-n.ensures)) (sym (ap (is_wide c.args.form) c.count_lines-n.ensures) ∙ sym c.is_wide.ensures ∙ c.if-is_wide.false) (sym c.crowded_line.ensures ∙ c.in-At.is)
+pub returns-in-Some : goal.returns-in-Some
+returns-in-Some c = lines-few c.args.m c.args.form c.args.text.now (Done 0) (omega (arith, c.if-n-m.false, c.count_lines-n.ensures)) (sym (ap (is_wide c.args.form) c.count_lines-n.ensures) ∙ sym c.is_wide.ensures ∙ c.if-is_wide.false) (sym c.crowded_line.ensures ∙ c.in-Some.is)
 
-pub returns-in-Nowhere : goal.returns-in-Nowhere
-returns-in-Nowhere c = lines-few c.args.m c.args.form c.args.text.now (Done 0) (omega (arith, c.if-n-m.false, c.count_lines-n.ensures)) (sym (ap (is_wide c.args.form) c.count_lines-n.ensures) ∙ sym c.is_wide.ensures ∙ c.if-is_wide.false) (sym c.crowded_line.ensures ∙ c.in-Nowhere.is)
+pub returns-in-None : goal.returns-in-None
+returns-in-None c = lines-few c.args.m c.args.form c.args.text.now (Done 0) (omega (arith, c.if-n-m.false, c.count_lines-n.ensures)) (sym (ap (is_wide c.args.form) c.count_lines-n.ensures) ∙ sym c.is_wide.ensures ∙ c.if-is_wide.false) (sym c.crowded_line.ensures ∙ c.in-None.is)

@@ -2,8 +2,8 @@
 use Rattle.std.specs.Prelude.{ℕ, suc, cond, List, [], ◌∷◌, length, drop, eqb}
 use Prim.Native.Char.{code}
 use Rattle.lines.specs.Lf.{prefixed}
-use Rattle.names.specs.declared.Number.{Number}
-use Rattle.names.specs.declared.Number.TheVariants as number
+use Rattle.std.specs.declared.option.Option.{Option}
+use Rattle.std.specs.declared.option.Option.TheVariants.{Some, None}
 use Rattle.names.specs.Names.{read_number}
 
 -- how many zeros lead, of digits; the last digit is not counted
@@ -13,6 +13,6 @@ zeros (x ∷ []) = 0
 zeros (x ∷ d ∷ ds) = cond (eqb x (code "0")) (suc (zeros (d ∷ ds))) 0
 
 -- the number that follows a word, where the word stands in front
-unfoldable pub number_after : List ℕ → List ℕ → Number
+unfoldable pub number_after : List ℕ → List ℕ → Option ℕ
 unfolding read_number prefixed
-number_after p s = cond (prefixed p s) (read_number (drop (length p) s)) number.None
+number_after p s = cond (prefixed p s) (read_number (drop (length p) s)) None

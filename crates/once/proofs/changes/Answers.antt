@@ -2,8 +2,8 @@ use mathlib.Core.Path.{sym, ◌∙◌}
 use Rattle.once.proofs.Scratches.{changes-name}
 use Rattle.once.proofs.changes.Goals as goal
 
-pub returns-in-Reg : goal.returns-in-Reg
-returns-in-Reg c = rw (sym c.reg_name.ensures, c.in-Reg.is) c.use_of-u.ensures.1
+pub returns-in-Some : goal.returns-in-Some
+returns-in-Some c = rw (sym c.reg_name.ensures, c.in-Some.is) c.use_of-u.ensures.1
 
 pub returns-in-None : goal.returns-in-None
 returns-in-None c =

@@ -8,29 +8,29 @@ use Rattle.once.proofs.put_into.Goals as goal
 pub put_replaced-p-requires : goal.put_replaced-p-requires
 put_replaced-p-requires c =
     let a = c.args in
-    let w = c.in-One.w in
-    let h = fits-as a.o (into_one a.reg.0 a.line.now a.x.now w (sym c.find_reg.ensures ∙ c.in-One.is)) c.requires in
+    let w = c.in-Some.w in
+    let h = fits-as a.o (into_one a.reg.0 a.line.now a.x.now w (sym c.find_reg.ensures ∙ c.in-Some.is)) c.requires in
     omega (arith, h, line-long (replaced_at w.from w.to a.line.now a.x.now))
 
 pub put_byte-requires : goal.put_byte-requires
 put_byte-requires c =
     let a = c.args in
-    let w = c.in-One.w in
-    let h = fits-as a.o (into_one a.reg.0 a.line.now a.x.now w (sym c.find_reg.ensures ∙ c.in-One.is)) c.requires in
+    let w = c.in-Some.w in
+    let h = fits-as a.o (into_one a.reg.0 a.line.now a.x.now w (sym c.find_reg.ensures ∙ c.in-Some.is)) c.requires in
     omega (arith, h, line-long (replaced_at w.from w.to a.line.now a.x.now), c.put_replaced-p.ensures.place, wrote-length c.put_replaced-p.ensures)
 
 pub put_line-requires : goal.put_line-requires
 put_line-requires c =
     let a = c.args in
-    fits-as a.o (line-is _ ∙ into-not a.reg.0 a.line.now a.x.now (sym c.find_reg.ensures ∙ c.in-Not.is)) c.requires
+    fits-as a.o (line-is _ ∙ into-not a.reg.0 a.line.now a.x.now (sym c.find_reg.ensures ∙ c.in-None.is)) c.requires
 
-pub returns-in-One : goal.returns-in-One
-returns-in-One c =
+pub returns-in-Some : goal.returns-in-Some
+returns-in-Some c =
     let a = c.args in
-    let w = c.in-One.w in
-    wrote_as (line-is _ ∙ into_one a.reg.0 a.line.now a.x.now w (sym c.find_reg.ensures ∙ c.in-One.is)) (wrote_then c.put_replaced-p.ensures c.put_byte.ensures)
+    let w = c.in-Some.w in
+    wrote_as (line-is _ ∙ into_one a.reg.0 a.line.now a.x.now w (sym c.find_reg.ensures ∙ c.in-Some.is)) (wrote_then c.put_replaced-p.ensures c.put_byte.ensures)
 
-pub returns-in-Not : goal.returns-in-Not
-returns-in-Not c =
+pub returns-in-None : goal.returns-in-None
+returns-in-None c =
     let a = c.args in
-    wrote_as (line-is _ ∙ into-not a.reg.0 a.line.now a.x.now (sym c.find_reg.ensures ∙ c.in-Not.is)) c.put_line.ensures
+    wrote_as (line-is _ ∙ into-not a.reg.0 a.line.now a.x.now (sym c.find_reg.ensures ∙ c.in-None.is)) c.put_line.ensures

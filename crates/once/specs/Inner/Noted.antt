@@ -3,8 +3,9 @@
 use Rattle.std.specs.Prelude.{ℕ, zero, suc, ◌+◌, ◌-◌, ◌≤◌, ◌<◌, ◌≡◌, Bool, true, false, cond, not, ◌&&◌, ◌||◌, List, [], ◌∷◌, eqb, ltb, length, drop, get_or, set}
 use Prim.Native.Char.{code}
 use Rattle.names.specs.Names.{reg_of}
-use Rattle.names.specs.declared.RegName.{RegName}
-use Rattle.names.specs.declared.RegName.TheVariants as name
+use Rattle.std.specs.declared.option.Option.{Option}
+use Rattle.names.specs.declared.Register.{Register}
+use Rattle.std.specs.declared.option.Option.TheVariants.{Some, None}
 use Rattle.lines.specs.Lf.{part, up_to, lines_of}
 use Rattle.lines.specs.Inner.Lf.{lacks}
 use Rattle.parse.specs.Parse.{parse_of}
@@ -58,9 +59,9 @@ note_dead = 6
 -- region reads once, on the next line, puts its own number there, which is above that of the read
 
 -- the table f of the second reads, where n has the first ones, after a read of the register that a name is
-abbrev pub far_name : List ℕ → RegName → List ℕ → List ℕ → List ℕ
-far_name own name.None n f = f
-far_name own (name.Reg q) n f = with_entry own q.0 (entry_of own q.0 n) f
+abbrev pub far_name : List ℕ → Option Register → List ℕ → List ℕ → List ℕ
+far_name own None n f = f
+far_name own (Some q) n f = with_entry own q.0 (entry_of own q.0 n) f
 
 -- after a store of register v by the line with the number m and the note x
 abbrev pub alone_in : List ℕ → ℕ → ℕ → ℕ → List ℕ → List ℕ
@@ -81,16 +82,16 @@ abbrev pub back_by : ℕ → ℕ → ℕ → ℕ → List ℕ → List ℕ
 back_by c h r f d = cond (ltb h r && ltb r f) (take_back c f d) d
 
 -- so of the register that a name is
-abbrev pub back_name : List ℕ → ℕ → ℕ → RegName → List ℕ → List ℕ → List ℕ → List ℕ
-back_name own c h name.None n f d = d
-back_name own c h (name.Reg q) n f d = back_by c h (entry_of own q.0 n) (entry_of own q.0 f) d
+abbrev pub back_name : List ℕ → ℕ → ℕ → Option Register → List ℕ → List ℕ → List ℕ → List ℕ
+back_name own c h None n f d = d
+back_name own c h (Some q) n f d = back_by c h (entry_of own q.0 n) (entry_of own q.0 f) d
 
 -- the tables of the first reads and of the second ones, and the notes
 abbrev pub Reads : Type 0
 Reads = List ℕ × (List ℕ × List ℕ)
 
 -- after a read of the register that a name is in the line with the number m
-abbrev pub read_name : List ℕ → ℕ → ℕ → ℕ → RegName → Reads → Reads
+abbrev pub read_name : List ℕ → ℕ → ℕ → ℕ → Option Register → Reads → Reads
 read_name own c h m r d = (mark_name own m r d.0, (far_name own r d.0 d.1.0, back_name own c h r d.0 d.1.0 d.1.1))
 
 -- after the reads of the registers that runs name

@@ -6,8 +6,9 @@ use Rattle.parse.specs.declared.Line.{Line}
 use Rattle.parse.specs.declared.Line.TheVariants as line
 use Rattle.words.specs.Runs.{reads_of}
 use Rattle.words.specs.Hits.{reg_hit}
-use Rattle.words.specs.declared.Hit.{Hit}
-use Rattle.words.specs.declared.Hit.TheVariants as hit
+use Rattle.std.specs.declared.option.Option.{Option}
+use Rattle.text.specs.declared.Span.{Span}
+use Rattle.std.specs.declared.option.Option.TheVariants.{Some, None}
 use Rattle.reading.specs.Reading.{Reading, pure_in}
 use Rattle.lines.specs.Acts.{Act, keep, become, into, gone}
 use Rattle.lines.specs.Lf.{part, holds}
@@ -64,9 +65,9 @@ unfoldable pub line_drops : Reading → List ℕ → ℕ → Bool → List (List
 line_drops R l p b ls ps = drops_by R l p b ls ps (parse_of l)
 
 -- a search found one place
-abbrev pub has_hit : Hit → Bool
-has_hit hit.Not = false
-has_hit (hit.One w) = true
+abbrev pub has_hit : Option Span → Bool
+has_hit None = false
+has_hit (Some w) = true
 
 -- a store of register v with the value x, whose region is run, goes into the next line e, above ls; `goes` says whether that one goes
 unfoldable pub store_forwards : Reading → ℕ → List ℕ → List (List ℕ) → Bool → Bool → List ℕ → List (List ℕ) → Bool

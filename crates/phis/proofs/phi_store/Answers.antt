@@ -7,10 +7,10 @@ use Rattle.phis.proofs.phi_store.Goals as goal
 pub returns-then-is_let : goal.returns-then-is_let
 returns-then-is_let c = sym (store-let c.args.t.now (so c.is_let.ensures c.if-is_let.true))
 
-pub returns-in-Split : goal.returns-in-Split
-returns-in-Split c =
+pub returns-in-Some : goal.returns-in-Some
+returns-in-Some c =
     let a = c.args in
-    let w = assign-split a.t.now _ (sym c.assign_of.ensures ∙ c.in-Split.is) in
+    let w = assign-split a.t.now _ (sym c.assign_of.ensures ∙ c.in-Some.is) in
     c.phi_name.ensures ∙ sym (store_of a.t.now c.left_of.result.now (c.left_of.ensures ∙ w.is-left) (so c.is_let.ensures c.if-is_let.false) w.assigns)
 
 pub returns-in-None : goal.returns-in-None

@@ -5,7 +5,8 @@ use Rattle.lines.specs.Lf.{lines_of}
 use Rattle.lines.proofs.Tests.{so}
 use Rattle.lines.proofs.OutLaws.{wrote_as}
 use Rattle.reading.specs.Reading.{reading_of}
-use Rattle.names.specs.declared.PhiName.{PhiName}
+use Rattle.std.specs.declared.option.Option.{Option}
+use Rattle.names.specs.declared.Phi.{Phi}
 use Rattle.phis.specs.Phis.{phi_dead}
 use Rattle.phis.proofs.Lines.{decl-long}
 use Rattle.phis.proofs.Writes.{dead-assign, change-store, change-decl, change-keep, start-le, drop_more}
@@ -21,7 +22,7 @@ put_store-requires c =
     let phi-store = c.phi_store in
     let dead-by = c.dead_by in
     let if1 = c.if-dead_by in (
-      dead-assign (lines_of a.text.now) trim_start.result.now (ap (λ (n : PhiName). phi_dead n (lines_of a.text.now)) (sym phi-store.ensures) ∙ so dead-by.ensures if1.true),
+      dead-assign (lines_of a.text.now) trim_start.result.now (ap (λ (n : Option Phi). phi_dead n (lines_of a.text.now)) (sym phi-store.ensures) ∙ so dead-by.ensures if1.true),
       (omega (arith, start-le a.line.now trim_start.result.now trim_start.ensures, pre.0), omega (arith, pre.1, ap length (change-store (reading_of a.mode.0) (lines_of a.text.now) a.line.now trim_start.result.now cut.result.now trim-from.result trim_start.ensures trim-from.ensures cut.ensures phi-store.result phi-store.ensures (so dead-by.ensures if1.true)))),
     )
 

@@ -4,16 +4,17 @@ use Rattle.lines.specs.Ascii.{ascii}
 use Rattle.lines.specs.Lf.{lines_of, unlines}
 use Rattle.lines.specs.Acts.{act}
 use Rattle.names.specs.Names.{phi_of}
-use Rattle.names.specs.declared.PhiName.{PhiName}
-use Rattle.names.specs.declared.PhiName.TheVariants as name
+use Rattle.std.specs.declared.option.Option.{Option}
+use Rattle.names.specs.declared.Phi.{Phi}
+use Rattle.std.specs.declared.option.Option.TheVariants.{Some, None}
 use Rattle.lexical.specs.Phi.{phi_rhs_pure}
 use Rattle.reading.specs.Reading.{Reading, pure_in}
 use Rattle.phis.specs.Phis.{dead_phi, phi_act, round}
 
 -- a name is that of a phi that is not dead in the text ls
-abbrev pub live_by : List (List ℕ) → PhiName → Bool
-live_by ls name.None = false
-live_by ls (name.Phi q) = not (dead_phi q.0 ls)
+abbrev pub live_by : List (List ℕ) → Option Phi → Bool
+live_by ls None = false
+live_by ls (Some q) = not (dead_phi q.0 ls)
 
 -- the same of a text that names it
 abbrev pub live : List (List ℕ) → List ℕ → Bool

@@ -3,24 +3,25 @@ use Rattle.std.specs.Prelude.{ℕ, ◌<◌, ◌^◌, ◌≡◌, cond, not, ◌&&
 use Rattle.lines.specs.Lf.{same, holds}
 use Rattle.text.specs.Trim.{trim_start}
 use Rattle.names.specs.Names.{phi_word, phi_of, phi_text, phi_is}
-use Rattle.names.specs.declared.PhiName.{PhiName}
-use Rattle.names.specs.declared.PhiName.TheVariants as name
+use Rattle.std.specs.declared.option.Option.{Option}
+use Rattle.names.specs.declared.Phi.{Phi}
+use Rattle.std.specs.declared.option.Option.TheVariants.{Some, None}
 use Rattle.words.specs.Runs.{runs}
 use Rattle.slots.specs.Inner.Slots.{slot_of, entry_of, with_entry}
 use Rattle.phis.specs.Phis.{phi_decl, phi_store, dead_phi}
 
 -- the table d after a store of a phi
-abbrev pub note_store : List ℕ → PhiName → List ℕ → List ℕ
-note_store own name.None d = d
-note_store own (name.Phi q) d = cond (eqb (entry_of own q.0 d) 2) d (with_entry own q.0 1 d)
+abbrev pub note_store : List ℕ → Option Phi → List ℕ → List ℕ
+note_store own None d = d
+note_store own (Some q) d = cond (eqb (entry_of own q.0 d) 2) d (with_entry own q.0 1 d)
 
 -- after a run r that names a phi: it is a read where r is the phi as it is printed, and not the one that the line stores
-abbrev pub note_name : List ℕ → PhiName → List ℕ → PhiName → List ℕ → List ℕ
-note_name own stored r name.None d = d
-note_name own stored r (name.Phi q) d = cond (not (phi_is q.0 stored) && same r (phi_text q.0)) (with_entry own q.0 2 d) d
+abbrev pub note_name : List ℕ → Option Phi → List ℕ → Option Phi → List ℕ → List ℕ
+note_name own stored r None d = d
+note_name own stored r (Some q) d = cond (not (phi_is q.0 stored) && same r (phi_text q.0)) (with_entry own q.0 2 d) d
 
 -- after runs
-unfoldable pub note_runs : List ℕ → PhiName → List (List ℕ) → List ℕ → List ℕ
+unfoldable pub note_runs : List ℕ → Option Phi → List (List ℕ) → List ℕ → List ℕ
 note_runs own stored [] d = d
 note_runs own stored (r ∷ rs) d = note_runs own stored rs (note_name own stored r (phi_of r) d)
 

@@ -4,14 +4,15 @@ use Prim.Native.Char.{code}
 use Rattle.lines.specs.Lf.{up_to}
 use Rattle.text.specs.Trim.{from_of, to_end}
 use Rattle.parse.specs.Inner.Parse.{plain_byte}
-use Rattle.reading.specs.declared.Assign.{Assign}
-use Rattle.reading.specs.declared.Assign.TheVariants.{Split, None}
+use Rattle.std.specs.declared.option.Option.{Option}
+use Rattle.reading.specs.declared.Sides.{Sides}
+use Rattle.std.specs.declared.option.Option.TheVariants.{Some, None}
 use Rattle.reading.specs.Assign.{is_assign, unended}
 
 -- the places of the two sides in the text, where the `=` stands at the place k of u
-abbrev pub split_at : ℕ → List ℕ → Assign
+abbrev pub split_at : ℕ → List ℕ → Option Sides
 split_at k u =
-    Split
+    Some
     (record {
       left = record { from = from_of (take k u); to = to_end (take k u) };
       right = record { from = suc k + from_of (drop (suc k) u); to = suc k + to_end (drop (suc k) u) };
@@ -26,10 +27,10 @@ plain_sides k u =
     && (plain_byte (get_or u 0 0) && (plain_byte (get_or u (k - 2) 0) && (plain_byte (get_or u (k + 2) 0) && plain_byte (get_or u (length u - 1) 0)))))))
 
 -- the same of a text without its `;`, or none where it holds no `=`
-abbrev pub sides_of : List ℕ → Assign
+abbrev pub sides_of : List ℕ → Option Sides
 sides_of u = cond (ltb (up_to (code "=") u) (length u)) (split_at (up_to (code "=") u) u) None
 
 -- the two sides as places of the text, or none where it is no assignment
-unfoldable pub assign_of : List ℕ → Assign
+unfoldable pub assign_of : List ℕ → Option Sides
 unfolding is_assign
 assign_of t = cond (is_assign t) (split_at (up_to (code "=") (unended t)) (unended t)) None

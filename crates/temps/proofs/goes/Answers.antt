@@ -18,7 +18,7 @@ pub returns-then-not-is_temp_name : goal.returns-then-not-is_temp_name
 returns-then-not-is_temp_name c =
     let a = c.args in
     let p = c.trim-t.ensures.0 in
-    let w = assign-split _ _ (sym c.in-Split.ensures) in
+    let w = assign-split _ _ (sym c.in-Some.ensures) in
     let q = c.left_of-name.ensures ∙ w.is-left in
     let d = so c.is_temp_name.ensures c.if-not-is_temp_name.true in
     record { answer = sym (goes-name (reading_of a.mode.0) (lines_of a.text.now) a.line.now _ p _ w.assigns q d); memory = sym (scratch-store (strict_at a.mode.0) a.scratch.now a.line.now _ p false _ w.assigns q d) }
@@ -26,7 +26,7 @@ returns-then-not-is_temp_name c =
 pub purity-requires : goal.purity-requires
 purity-requires c =
     let a = c.args in
-    let w = assign-split _ _ (sym c.in-Split.ensures) in
+    let w = assign-split _ _ (sym c.in-Some.ensures) in
     omega (arith, c.requires.0, value_room c.is_strict.result a.line.now _ _ c.trim-t.ensures.0 (c.right_of.ensures ∙ w.is_right))
 
 pub returns-then-not-is_pure : goal.returns-then-not-is_pure
@@ -35,7 +35,7 @@ returns-then-not-is_pure c =
     let k = c.is_strict.ensures in
     let x = c.right_of.result.now in
     let p = c.trim-t.ensures.0 in
-    let w = assign-split _ _ (sym c.in-Split.ensures) in
+    let w = assign-split _ _ (sym c.in-Some.ensures) in
     let q = c.left_of-name.ensures ∙ w.is-left in
     let v = c.right_of.ensures ∙ w.is_right in
     let d = so c.is_temp_name.ensures c.if-not-is_temp_name.false in
@@ -56,7 +56,7 @@ returns-else-not-is_pure c =
     let k = c.is_strict.ensures in
     let x = c.right_of.result.now in
     let p = c.trim-t.ensures.0 in
-    let w = assign-split _ _ (sym c.in-Split.ensures) in
+    let w = assign-split _ _ (sym c.in-Some.ensures) in
     let q = c.left_of-name.ensures ∙ w.is-left in
     let v = c.right_of.ensures ∙ w.is_right in
     let d = so c.is_temp_name.ensures c.if-not-is_temp_name.false in

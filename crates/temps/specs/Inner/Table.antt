@@ -6,31 +6,29 @@ use Rattle.lines.specs.Lf.{parts_of, prefixed, same}
 use Rattle.text.specs.Trim.{trim_of}
 use Rattle.names.specs.Names.{temp_word, read_number, is_temp}
 use Rattle.names.specs.Inner.Names.{zeros}
-use Rattle.names.specs.declared.Number.{Number}
-use Rattle.names.specs.declared.Number.TheVariants as number
+use Rattle.std.specs.declared.option.Option.{Option}
+use Rattle.std.specs.declared.option.Option.TheVariants.{Some, None}
 use Rattle.parse.specs.Parse.{let_word, body_of, is_let}
 use Rattle.place.specs.Region.{var_word, const_word}
 use Rattle.words.specs.Runs.{runs}
 use Rattle.reading.specs.Assign.{is_assign, left_of}
 use Rattle.slots.specs.Inner.Slots.{slot_of, entry_of, with_entry}
-use Rattle.temps.specs.declared.table.Flag.{Flag}
-use Rattle.temps.specs.declared.table.Flag.TheVariants as flag
 
 -- the key of the number n behind z zeros, another for each text: the number itself where no zero leads; none where it would be too high. The keys
 -- of one number behind more and more zeros fall on places of the owners that are far from each other.
-abbrev pub key_by : ℕ → Number → Number
-key_by z number.None = number.None
-key_by z (number.Of n) =
-    cond (z == 0) (cond (nat_lt n (2 ^ 63)) (number.Of n) number.None) (cond (nat_lt z 63 && nat_lt n (2 ^ 57)) (number.Of (2 ^ 63 + ((2 ^ 57 + 633) * z + n))) number.None)
+abbrev pub key_by : ℕ → Option ℕ → Option ℕ
+key_by z None = None
+key_by z (Some n) =
+    cond (z == 0) (cond (nat_lt n (2 ^ 63)) (Some n) None) (cond (nat_lt z 63 && nat_lt n (2 ^ 57)) (Some (2 ^ 63 + ((2 ^ 57 + 633) * z + n))) None)
 
 -- the key of a temp: of `t7` it is 7, and of `t07` another
-unfoldable pub key_of : List ℕ → Number
-key_of s = cond (prefixed temp_word s) (key_by (zeros (drop 1 s)) (read_number (drop 1 s))) number.None
+unfoldable pub key_of : List ℕ → Option ℕ
+key_of s = cond (prefixed temp_word s) (key_by (zeros (drop 1 s)) (read_number (drop 1 s))) None
 
 -- the table d with a flag at a key; one that has no place in it leaves it as it is
-abbrev pub flag_at : List ℕ → Number → List ℕ → List ℕ
-flag_at own number.None d = d
-flag_at own (number.Of n) d = with_entry own n 1 d
+abbrev pub flag_at : List ℕ → Option ℕ → List ℕ → List ℕ
+flag_at own None d = d
+flag_at own (Some n) d = with_entry own n 1 d
 
 -- ---- declared temps
 
@@ -93,14 +91,14 @@ reads_if own c ls d = cond (any_flag c) (flag_lines own ls d) d
 -- ---- what a table says
 
 -- of a key: whether its flag is set, or that it has no place
-abbrev pub flag_by : List ℕ → Number → List ℕ → Flag
-flag_by own number.None d = flag.Past
-flag_by own (number.Of n) d = cond (nat_lt (slot_of (length d) own n) (length d)) (flag.Is (entry_of own n d == 1)) flag.Past
+abbrev pub flag_by : List ℕ → Option ℕ → List ℕ → Option Bool
+flag_by own None d = None
+flag_by own (Some n) d = cond (nat_lt (slot_of (length d) own n) (length d)) (Some (entry_of own n d == 1)) None
 
 -- of the temps that have a place in it, the table flags exactly those that pass a test
 abbrev pub Tells : List ℕ → (List ℕ → Bool) → List ℕ → Type 0
-Tells own f d = (x : List ℕ) (n : ℕ) → is_temp x ≡ true → key_of x ≡ number.Of n → slot_of (length d) own n < length d → (entry_of own n d == 1) ≡ f x
+Tells own f d = (x : List ℕ) (n : ℕ) → is_temp x ≡ true → key_of x ≡ Some n → slot_of (length d) own n < length d → (entry_of own n d == 1) ≡ f x
 
 -- the same, of the temps that pass the test g
 abbrev pub TellsOf : List ℕ → (List ℕ → Bool) → (List ℕ → Bool) → List ℕ → Type 0
-TellsOf own g f d = (x : List ℕ) (n : ℕ) → is_temp x ≡ true → g x ≡ true → key_of x ≡ number.Of n → slot_of (length d) own n < length d → (entry_of own n d == 1) ≡ f x
+TellsOf own g f d = (x : List ℕ) (n : ℕ) → is_temp x ≡ true → g x ≡ true → key_of x ≡ Some n → slot_of (length d) own n < length d → (entry_of own n d == 1) ≡ f x

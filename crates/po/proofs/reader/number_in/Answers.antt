@@ -1,10 +1,10 @@
 use mathlib.Core.Path.{sym, ap, ◌∙◌}
-use Rattle.names.specs.declared.Number.{Number}
+use Rattle.std.specs.declared.option.Option.{Option}
 use Rattle.po.specs.Reader.{value_of}
 use Rattle.po.proofs.reader.number_in.Goals as goal
 
-pub returns-in-Of : goal.returns-in-Of
-returns-in-Of c = sym (ap (λ (x : Number). value_of x) (sym c.read_number.ensures ∙ c.in-Of.is))
+pub returns-in-Some : goal.returns-in-Some
+returns-in-Some c = sym (ap (λ (x : Option ℕ). value_of x) (sym c.read_number.ensures ∙ c.in-Some.is))
 
 pub returns-in-None : goal.returns-in-None
-returns-in-None c = sym (ap (λ (x : Number). value_of x) (sym c.read_number.ensures ∙ c.in-None.is))
+returns-in-None c = sym (ap (λ (x : Option ℕ). value_of x) (sym c.read_number.ensures ∙ c.in-None.is))
