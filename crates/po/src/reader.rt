@@ -102,8 +102,8 @@ fn number_in(s: &[u8]) -> u64
     ensures { result ≡ value_of (read_number s.now) }
 {
     match names::read_number(s) {
-        Number::Of(n) => n,
-        Number::None => 0,
+        Some(n) => n,
+        None => 0,
     }
 }
 
@@ -115,8 +115,8 @@ fn is_decimal(s: &[u8], v: u64) -> bool
         return false;
     }
     match names::read_number(s) {
-        Number::Of(n) => n == v,
-        Number::None => false,
+        Some(n) => n == v,
+        None => false,
     }
 }
 
