@@ -15,7 +15,7 @@ unfolding count_of
 count_of_is_count b s = is_count_by (count_of b) (λ x. x == b) refl (λ x xs. grind arith) s
 
 -- `iter().position(..).unwrap_or(s.len())`
-first_or_all : (p n : ℕ) → p ≤ n → unwrap_or (cond (nat_lt p n) (Some p) None) n ≡ p
+pub first_or_all : (p n : ℕ) → p ≤ n → unwrap_or (cond (nat_lt p n) (Some p) None) n ≡ p
 first_or_all p n h = grind arith
 
 pub position_is_up_to : (b : ℕ) (s : List ℕ) → unwrap_or (position (λ x. x == b) s) (length s) ≡ up_to b s

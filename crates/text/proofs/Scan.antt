@@ -1,15 +1,15 @@
 -- The scan of a text, a sequence at a time.
 -- Assumes nothing.
 use mathlib.Core.Path.{◌≡◌, refl, sym, ap, ◌∙◌}
-use mathlib.Core.Bool.{true, false}
+use mathlib.Core.Bool.{true}
 use mathlib.Core.List.{List, [], ◌∷◌}
-use Prim.Native.Nat.{ℕ, zero, suc, ◌+◌, ◌≤◌, ◌<◌}
+use Prim.Native.Nat.{ℕ, zero, suc, ◌+◌, ◌<◌}
 use native.Mathlib.Nat.{add-zero}
-use native.Mathlib.Numerals.{add-one}
 use native.Mathlib.Omega.{arith}
-use borrow.Author.Tests.{lt-ltb, le-ltb, ltb-true}
+use borrow.Author.Tests.{lt-ltb, ltb-true}
 use lib.ListN.{length, get_or, drop}
 use lib.Seq.{drop-cons, drop-drop}
+use Rattle.std.specs.Str.{IsAscii}
 use Rattle.lines.specs.Lf.{all}
 use Rattle.lines.proofs.Tests.{and_left, and_right, is-in}
 use Rattle.text.specs.Utf8Form.{seq_len, scan}
@@ -53,9 +53,6 @@ unfolding scan
 scan-ascii i [] h = refl
 scan-ascii i (x ∷ xs) h = rw (ascii-seq x xs (and_left (is_ascii x) (all is_ascii xs) h)) (scan-ascii (suc i) xs (and_right (is_ascii x) (all is_ascii xs) h))
 
-module _ (s : List ℕ) (i : ℕ) (h : i < length s) where
-  pub ascii-on : get_or s i 0 < 0x80 → all is_ascii (drop i s) ≡ all is_ascii (drop (i + 1) s)
-  ascii-on l = rw (add-one i, drop-cons s i 0 h, lt-ltb (get_or s i 0) 0x80 l)
-
-  pub ascii-not : 0x80 ≤ get_or s i 0 → all is_ascii (drop i s) ≡ false
-  ascii-not l = rw (drop-cons s i 0 h, le-ltb (get_or s i 0) 0x80 l)
+pub all-ascii : (l : List ℕ) → IsAscii l → all is_ascii l ≡ true
+all-ascii [] h = refl
+all-ascii (x ∷ xs) h = rw (lt-ltb x 0x80 (h 0)) (all-ascii xs (λ i. h (suc i)))

@@ -1,7 +1,7 @@
 -- The white space at the ends of a list, one at a time.
 -- Assumes nothing.
 use mathlib.Core.Path.{◌≡◌, refl, sym, ap, ◌∙◌}
-use mathlib.Core.Bool.{Bool, true, false, cond, ◌&&◌}
+use mathlib.Core.Bool.{Bool, true, false, cond, not, ◌&&◌}
 use mathlib.Core.List.{List, [], ◌∷◌}
 use Prim.Native.Nat.{ℕ, zero, suc, ◌+◌, ◌-◌, ◌≤◌, ◌<◌}
 use native.Mathlib.Omega.{arith}
@@ -9,6 +9,7 @@ use native.Mathlib.Nat.{zero-add}
 use borrow.Author.Tests.{ltb-true, ltb-false, le-leb, eqb-true}
 use lib.Dec.{eqb, leb, ltb}
 use lib.ListN.{length, get_or, drop, take, length-drop, drop_of_length-le}
+use Rattle.std.specs.List.{position_or_len}
 use Rattle.lines.proofs.Tests.{and_left, and_right}
 use Rattle.text.specs.White.{is_white}
 use lib.Seq.{drop-cons, drop-drop, get_or-drop, take_all}
@@ -130,6 +131,22 @@ space = refl
 pub front-space : (s : List ℕ) (i : ℕ) → i < length s → get_or s i 0 ≡ 32 → from_of (drop i s) ≡ 1 + from_of (drop (i + 1) s)
 unfolding from_of
 front-space s i h e = front-on s i h 1 (head-ascii s i 32 h (sym e) (omega arith) ∙ space) (λ z. omega arith)
+
+-- the spaces at the front
+pub front-spaces : (s : List ℕ) → (position_or_len (λ b. not (eqb b 32)) s ≤ length s) × (from_of s ≡ position_or_len (λ b. not (eqb b 32)) s + from_of (drop (position_or_len (λ b. not (eqb b 32)) s) s))
+front-spaces [] = (omega arith, omega arith)
+front-spaces (x ∷ xs) = go (eqb x 32) refl (front-spaces xs)
+  where
+    n : ℕ
+    n = position_or_len (λ b. not (eqb b 32)) xs
+
+    go : (t : Bool) → eqb x 32 ≡ t → (n ≤ length xs) × (from_of xs ≡ n + from_of (drop n xs)) →
+        (cond (not (not t)) (1 + n) 0 ≤ suc (length xs)) × (from_of (x ∷ xs) ≡ cond (not (not t)) (1 + n) 0 + from_of (drop (cond (not (not t)) (1 + n) 0) (x ∷ xs)))
+    go true e h =
+        let f = front-space (x ∷ xs) 0 (omega arith) (eqb-true x 32 e) in
+        let z : 1 + n ≡ suc n = omega arith in
+        rw z (omega arith, omega arith)
+    go false e h = (omega arith, omega arith)
 
 pub front-told : (s : List ℕ) (i a : ℕ) → i ≤ length s → from_of s ≡ i + from_of (drop i s) → a ≡ get_or s i 0 → 32 < a → a < 0x80 → i ≡ from_of s
 unfolding from_of

@@ -8,7 +8,6 @@ ghost use Rattle.text.specs.Class.{is_name, is_quote, opens_pattern};
 ghost use Rattle.text.specs.Inner.Class.{class_of};
 ghost use Rattle.text.specs.White.{is_white};
 ghost use Rattle.text.specs.Utf8Form.{seq_len, utf8_of};
-ghost use Rattle.text.specs.Inner.Utf8Form.{is_ascii};
 
 // The class of each byte: 1 a byte of a name, 2 a quote, 3 one after which `/` starts a pattern, 0 any other.
 const CLASSES: [u8; 256] = [
@@ -166,28 +165,12 @@ pub fn seq_at(s: &[u8], i: usize) -> usize
     seq_len(a, byte(s, i + 1), byte(s, i + 2), byte(s, i + 3))
 }
 
-// Whether every byte is one of ASCII. It goes on to the end, so that the compiler looks at many bytes at a time.
-fn is_ascii(s: &[u8]) -> bool
-    ensures { result ≡ all is_ascii s.now }
-{
-    let mut low = true;
-    let mut i = 0;
-    while i < s.len() {
-        if s[i] < 0x80 {
-            i += 1;
-        } else {
-            low = false;
-            i += 1;
-        }
-    }
-    low
-}
-
 // Whether a text is UTF-8, and where it is not, sequence by sequence.
 fn scan_utf8(text: &[u8]) -> Utf8
     ensures { result ≡ utf8_of text.now }
 {
     let mut i = 0;
+    // Kept: the place moves by the length of the sequence that stands there.
     while i < text.len() {
         let n = seq_at(text, i);
         if n == 0 {
@@ -202,7 +185,7 @@ fn scan_utf8(text: &[u8]) -> Utf8
 pub fn check_utf8(text: &[u8]) -> Utf8
     ensures { result ≡ utf8_of text.now }
 {
-    if is_ascii(text) {
+    if text.is_ascii() {
         return Utf8::Valid;
     }
     scan_utf8(text)
@@ -326,6 +309,7 @@ fn skip_front(s: &[u8]) -> usize
     ensures { result ≡ from_of s.now }
 {
     let mut i = 0;
+    // Kept: the place moves by the length of the white space that stands there.
     while i < s.len() {
         let n = white_at(s, i);
         if n == 0 {
@@ -341,6 +325,7 @@ fn skip_back(s: &[u8]) -> usize
     ensures { result ≡ to_of s.now }
 {
     let mut e = s.len();
+    // Kept: the place moves back by the length of the white space before it.
     while e > 0 {
         let n = white_before(s, e);
         if n == 0 {
@@ -355,14 +340,7 @@ fn skip_back(s: &[u8]) -> usize
 fn spaces(s: &[u8]) -> usize
     ensures { (result ≤ length s.now) × (from_of s.now ≡ result + from_of (drop result s.now)) }
 {
-    let mut i = 0;
-    while i < s.len() {
-        if s[i] != 32 {
-            return i;
-        }
-        i += 1;
-    }
-    i
+    s.iter().position(|b| *b != 32).unwrap_or(s.len())
 }
 
 // Whether a text begins with two spaces and an ASCII byte above the space, as most lines do.
@@ -396,14 +374,12 @@ pub fn trim_from(s: &[u8]) -> usize
 fn spaces_back(s: &[u8]) -> usize
     ensures { (result ≤ length s.now) × (to_of s.now ≡ end_white s.now 0 result) }
 {
-    let mut e = s.len();
-    while 0 < e {
-        if s[e - 1] != 32 {
-            return e;
+    for e in (0..s.len()).rev() {
+        if s[e] != 32 {
+            return e + 1;
         }
-        e -= 1;
     }
-    e
+    0
 }
 
 // Where a text ends without the white space at its back: before its spaces, where the byte in front of them tells.
