@@ -1,7 +1,8 @@
 -- Our words for the first b and for how many there are, as std says them of a chain of iterators. Assumes nothing.
-use Rattle.std.proofs.Common.{◌≡◌, ℕ, zero, suc, ◌+◌, ◌<◌, ◌≤◌, Bool, true, false, cond, ◌==◌, List, [], ◌∷◌, length, refl, sym, ◌∙◌, arith}
+use Rattle.std.proofs.Common.{◌≡◌, ℕ, zero, suc, ◌+◌, ◌<◌, ◌≤◌, Bool, true, false, cond, not, ◌||◌, ◌==◌, List, [], ◌∷◌, length, refl, sym, ◌∙◌, arith}
 use Rattle.std.specs.Prelude.{position, count_by, unwrap_or, None, Some, nat_lt, nat_eq}
-use Rattle.std.specs.List.{position_or_len, starts_with}
+use Rattle.lines.specs.Inner.Lf.{lacks}
+use Rattle.std.specs.List.{list_any, position_or_len, starts_with}
 use Rattle.std.proofs.lemmas.List.Recursion.{is_position_or_len, is_count_by}
 use Rattle.lines.proofs.LfLaws.{up_to-le}
 use Rattle.lines.specs.Lf.{up_to, count_of, prefixed}
@@ -29,3 +30,13 @@ unfolding prefixed
 starts_is_prefixed [] s = refl
 starts_is_prefixed (x ∷ p) [] = refl
 starts_is_prefixed (x ∷ p) (y ∷ s) = rw (starts_is_prefixed p s)
+
+-- `!s.contains(&b)`
+pub lacks_is_none : (b : ℕ) (s : List ℕ) → not (list_any (λ x. x == b) s) ≡ lacks b s
+unfolding lacks
+lacks_is_none b [] = refl
+lacks_is_none b (x ∷ xs) = go (x == b) (lacks_is_none b xs)
+  where
+    go : (t : Bool) → not (list_any (λ x. x == b) xs) ≡ lacks b xs → not (t || list_any (λ x. x == b) xs) ≡ cond t false (lacks b xs)
+    go true h = refl
+    go false h = h

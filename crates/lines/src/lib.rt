@@ -113,6 +113,7 @@ pub fn find_byte(s: &[u8], i: usize, b: u8) -> usize
     }
     let n = s.len() - 7;
     let mut j = i;
+    // Kept: the place goes on by eight bytes and is where `find_one` begins; chunks would need it beside them.
     while j < n {
         let t = low_marks(s, j, b);
         if t == 0 {
@@ -142,6 +143,7 @@ pub fn line_start(s: &[u8], e: usize) -> usize
     ensures { result ≡ line_start s.now e }
 {
     let mut j = least(e, s.len());
+    // Kept: the place goes back by eight bytes and is where `start_one` begins; chunks would need it beside them.
     while 8 <= j {
         let t = marks_at(s, j - 8, 10);
         if t == 0 {
@@ -181,20 +183,15 @@ pub fn count_byte(s: &[u8], b: u8) -> usize
     n
 }
 
-// Whether no byte is `b`. It goes on to the end, so that the compiler compares many bytes at a time.
+// Whether no byte is `b`.
 pub fn lacks(s: &[u8], b: u8) -> bool
     ensures { result ≡ lacks b s.now }
 {
-    let mut none = true;
-    for &x in s {
-        if x == b {
-            none = false;
-        }
-    }
-    none
+    !s.contains(&b)
 }
 
 // Whether `p` stands at the front.
+// Kept: the slice's own `starts_with` runs twice as many instructions on the short words that are asked for.
 pub fn starts_with(s: &[u8], p: &[u8]) -> bool
     ensures { result ≡ prefixed p.now s.now }
 {
@@ -239,6 +236,7 @@ pub fn contains(s: &[u8], p: &[u8]) -> bool
     }
     let b = p[0];
     let mut i = find_byte(s, 0, b);
+    // Kept: the place moves to the next byte that `p` may begin with.
     while i < s.len() {
         if starts_with(&s[i..], p) {
             return true;
