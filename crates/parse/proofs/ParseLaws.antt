@@ -7,6 +7,7 @@ use native.Mathlib.Omega.{arith}
 use borrow.Author.Tests.{eq-eqb, ne_eqb, lt-ltb, le-ltb, ltb-true, ltb-false}
 use lib.Dec.{eqb, ltb}
 use lib.ListN.{length, take, drop, get_or, length-take, length-drop}
+use Rattle.std.specs.List.{list_all}
 use Rattle.text.specs.Trim.{from_of, to_of, to_end, trim_of}
 use Rattle.names.specs.Names.{reg_of, is_reg}
 use Rattle.std.specs.declared.option.Option.{Option}
@@ -21,6 +22,14 @@ use Rattle.parse.specs.Parse.{all_regs, is_decl, store_by, split_store, store_in
 use Rattle.lines.proofs.LfLaws.{parts_at, parts-at-end, rest_of}
 
 -- ---- the pieces of a declaration
+
+abbrev pub names_reg : List ℕ → Bool
+names_reg p = is_reg (reg_of (trim_of p))
+
+pub regs-all : (ps : List (List ℕ)) → list_all names_reg ps ≡ all_regs ps
+unfolding all_regs
+regs-all [] = refl
+regs-all (p ∷ ps) = ap (λ (b : Bool). names_reg p && b) (regs-all ps)
 
 regs-cons : (p : List ℕ) (ps : List (List ℕ)) (b : Bool) → is_reg (reg_of (trim_of p)) ≡ b → all_regs (p ∷ ps) ≡ b && all_regs ps
 unfolding all_regs

@@ -2,12 +2,12 @@
 #![tactic(auto)]
 
 ghost use Rattle.std.specs.Prelude.{◌≡◌, ◌<◌, ◌≤◌, ◌+◌, ◌-◌, ◌^◌, true, cond, not, ◌&&◌, eqb, length, take, drop, get_or};
-ghost use Rattle.lines.specs.Lf.{part, up_to, parts_of};
+ghost use Rattle.lines.specs.Lf.{part, parts_of};
 ghost use Rattle.text.specs.Trim.{from_of, trim_of};
 ghost use Rattle.names.specs.Names.{reg_of, is_reg};
 ghost use Rattle.std.specs.declared.option.Option.TheVariants.{None};
 ghost use Rattle.parse.specs.Parse.{all_regs, is_decl, store_in, split_store, parse_of, text_of};
-ghost use Rattle.parse.specs.Inner.Parse.{digits_len, short_reg, NameTo, plain_byte, plain_value};
+ghost use Rattle.parse.specs.Inner.Parse.{digits_len, NameTo, plain_byte, plain_value};
 
 // A store: its register, and the place of its value in the line.
 #[derive(Clone, Copy)]
@@ -38,14 +38,12 @@ fn is_reg(s: &[u8]) -> bool
 fn digits_end(s: &[u8], i: usize) -> usize
     ensures { result ≡ i + digits_len (drop i s.now) }
 {
-    let mut j = i;
-    while j < s.len() {
+    for j in i..s.len() {
         if (s[j] < b'0') | (b'9' < s[j]) {
             return j;
         }
-        j += 1;
     }
-    j
+    i.max(s.len())
 }
 
 // The place after the space at a place, or the place.
@@ -58,77 +56,33 @@ fn after_space(s: &[u8], i: usize) -> usize
     i
 }
 
-// Whether `r` and a digit stand at a place, and then a comma or the end.
-fn short_reg(s: &[u8], a: usize) -> bool
-    ensures { result ≡ short_reg a s.now }
+// Whether a piece is plainly a register, which most are: at most one space, `r` and at most nine digits.
+fn plain_reg(p: &[u8]) -> bool
+    ensures { result ≡ true → is_reg (reg_of (trim_of p.now)) ≡ true }
 {
-    let n = s.len();
-    if n < 2 {
+    let a = after_space(p, 0);
+    if lines::byte_at(p, a) != b'r' {
         return false;
     }
-    if n - 2 < a {
+    let e = digits_end(p, a + 1);
+    if e < p.len() {
         return false;
     }
-    let d = s[a + 1];
-    if !((s[a] == b'r') & ((b'0' <= d) & (d <= b'9'))) {
-        return false;
-    }
-    if a + 2 == n {
-        return true;
-    }
-    s[a + 2] == b','
+    (2 <= e - a) & (e - a <= 10)
 }
 
-// Where the piece at a place ends, where it is plainly a register: at most one space, `r` and at most nine digits. Else the place.
-fn plain_reg(s: &[u8], i: usize) -> usize
-    ensures { i < result → (result ≡ i + up_to 44 (drop i s.now)) × (is_reg (reg_of (trim_of (part i result s.now))) ≡ true) }
+// Whether a piece names a register.
+fn names_reg(p: &[u8]) -> bool
+    ensures { result ≡ is_reg (reg_of (trim_of p.now)) }
 {
-    let a = after_space(s, i);
-    if short_reg(s, a) {
-        return a + 2;
-    }
-    if lines::byte_at(s, a) != b'r' {
-        return i;
-    }
-    let e = digits_end(s, a + 1);
-    if e - a < 2 {
-        return i;
-    }
-    if 10 < e - a {
-        return i;
-    }
-    if e >= s.len() {
-        return e;
-    }
-    if s[e] != b',' {
-        return i;
-    }
-    e
+    plain_reg(p) || is_reg(text::trim(p))
 }
 
 // Whether each piece between the commas names a register.
 fn all_regs(s: &[u8]) -> bool
     ensures { result ≡ all_regs (parts_of 44 s.now) }
 {
-    let mut i = 0;
-    loop {
-        let p = plain_reg(s, i);
-        if i < p {
-            if p >= s.len() {
-                return true;
-            }
-            i = p + 1;
-        } else {
-            let e = lines::find_byte(s, i, b',');
-            if !is_reg(text::trim(&s[i..e])) {
-                return false;
-            }
-            if e >= s.len() {
-                return true;
-            }
-            i = e + 1;
-        }
-    }
+    lines::pieces(s, b',').all(|p| names_reg(p))
 }
 
 // Whether a trimmed line is a declaration.
@@ -238,6 +192,7 @@ fn digits_to(t: &[u8], i: usize) -> usize
     ensures { (result ≡ i + digits_len (drop i t.now)) × (result < length t.now) }
 {
     let mut j = i;
+    // Kept: no end is looked for, and the places are not known before.
     loop {
         if (t[j] < b'0') | (b'9' < t[j]) {
             return j;
@@ -282,6 +237,7 @@ fn plain_names(t: &[u8], a: usize) -> bool
     ensures { result ≡ true → all_regs (parts_of 44 (drop a (take (length t.now - 1) t.now))) ≡ true }
 {
     let mut i = a;
+    // Kept: a name is read as far as it goes, and no comma is looked for before.
     loop {
         let e = plain_name(t, i);
         if e <= i {

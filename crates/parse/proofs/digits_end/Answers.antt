@@ -10,4 +10,4 @@ pub loop-j-preserved : goal.loop-j-preserved
 loop-j-preserved c = let l = c.loop-j in let s = c.args.s.now in omega (arith, l.invariant, digits-on s l.j c.loop-j-test.true (digit-test (get_or s l.j 0) _ c.if-s-j.false))
 
 pub returns : goal.returns
-returns c = omega (arith, c.loop-j.invariant, digits-end c.args.s.now c.loop-j.j c.loop-j-test.false)
+returns c = let a = c.args in grind (arith, digits-end a.s.now c.loop-j.j c.loop-j-test.false, digits-end a.s.now a.i)

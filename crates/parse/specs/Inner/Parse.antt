@@ -10,10 +10,6 @@ unfoldable pub digits_len : List ℕ → ℕ
 digits_len [] = 0
 digits_len (x ∷ xs) = cond (is_digit x) (suc (digits_len xs)) 0
 
--- at the place a stand `r` and a digit, and then a comma or the end
-abbrev pub short_reg : ℕ → List ℕ → Bool
-short_reg a l = leb (a + 2) (length l) && ((eqb (get_or l a 0) (code "r") && is_digit (get_or l (a + 1) 0)) && (eqb (a + 2) (length l) || eqb (get_or l (a + 2) 0) (code ",")))
-
 -- a text without its last byte
 abbrev pub without : List ℕ → List ℕ
 without t = take (length t - 1) t
