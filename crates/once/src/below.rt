@@ -11,17 +11,15 @@ use crate::{noted, scratch_at};
 pub fn dead_below(text: &[u8], paths: &[usize], p: usize, reg: names::Register) -> bool
     ensures { result ≡ dead_by p (next_in reg.0 (lines_of text.now) paths.now) }
 {
-    let mut i = 0;
     let mut k = 0;
-    while i < text.len() {
-        let e = lines::find_byte(text, i, 10);
+    for line in lines::each::each(text) {
         if k >= paths.len() {
             return true;
         }
-        if place::is_header(&text[i..e]) {
+        if place::is_header(line.bytes) {
             return true;
         }
-        let u = reading::use_of(&text[i..e], reg);
+        let u = reading::use_of(line.bytes, reg);
         if 0 < u.reads {
             return false;
         }
@@ -29,7 +27,6 @@ pub fn dead_below(text: &[u8], paths: &[usize], p: usize, reg: names::Register) 
             return p == paths[k];
         }
         k += 1;
-        i = lines::after(text, e);
     }
     true
 }

@@ -50,20 +50,17 @@ fn is_member(x: &[u8]) -> bool
 fn read_below(text: &[u8], reg: names::Register, far: bool) -> bool
     ensures { result ≡ read_below far reg.0 (lines_of text.now) }
 {
-    let mut i = 0;
-    while i < text.len() {
-        let e = lines::find_byte(text, i, 10);
-        if !far & place::is_header(&text[i..e]) {
+    for line in lines::each::each(text) {
+        if !far & place::is_header(line.bytes) {
             return false;
         }
-        let u = reading::use_of(&text[i..e], reg);
+        let u = reading::use_of(line.bytes, reg);
         if u.stores {
             return false;
         }
         if 0 < u.reads {
             return true;
         }
-        i = lines::after(text, e);
     }
     false
 }
@@ -82,12 +79,10 @@ fn starts_call(s: &[u8], x: &[u8]) -> bool
 fn holds_call(s: &[u8], x: &[u8]) -> bool
     ensures { result ≡ holds (x.now ++ 40 ∷ []) s.now }
 {
-    let mut i = 0;
-    while i < s.len() {
+    for i in 0..s.len() {
         if starts_call(&s[i..], x) {
             return true;
         }
-        i += 1;
     }
     false
 }
@@ -107,17 +102,13 @@ fn line_calls(s: &[u8], x: &[u8]) -> bool
 fn any_call(text: &[u8], x: &[u8]) -> bool
     ensures { result ≡ any_call x.now (lines_of text.now) }
 {
-    let mut i = 0;
-    while i < text.len() {
-        let e = lines::find_byte(text, i, 10);
-        let line = lines::cut(text, i, e);
-        if place::is_header(line) {
+    for line in lines::each::each(text) {
+        if place::is_header(line.bytes) {
             return false;
         }
-        if line_calls(line, x) {
+        if line_calls(line.bytes, x) {
             return true;
         }
-        i = lines::after(text, e);
     }
     false
 }
@@ -130,6 +121,7 @@ fn calm_len(text: &[u8]) -> usize
     ensures { Calm text.now result }
 {
     let mut i = text.len();
+    // Kept: the blocks are counted from the end, and stop at the first that holds one.
     while BLOCK <= i {
         if !lines::lacks(&text[i - BLOCK..i], b'(') {
             return text.len() - i;
@@ -161,19 +153,16 @@ fn called_below(text: &[u8], x: &[u8], obj: &[u8]) -> bool
     requires { (obj.now ≡ object_of x.now) × (is_ident obj.now ≡ true) }
     ensures { result ≡ called_below x.now (lines_of text.now) }
 {
-    let mut i = 0;
-    while i < text.len() {
-        let e = lines::find_byte(text, i, 10);
-        if place::is_header(&text[i..e]) {
+    for line in lines::each::each(text) {
+        if place::is_header(line.bytes) {
             return false;
         }
-        if holds_call(&text[i..e], x) {
+        if holds_call(line.bytes, x) {
             return true;
         }
-        if changes(&text[i..e], obj) {
+        if changes(line.bytes, obj) {
             return false;
         }
-        i = lines::after(text, e);
     }
     false
 }
@@ -217,11 +206,9 @@ fn scratch_at(x: &[u8], reg: names::Register, below: &[u8], note: u8, calm: usiz
 fn read_once(text: &[u8], reg: names::Register) -> bool
     ensures { result ≡ eqb (read_count reg.0 (lines_of text.now)) 1 }
 {
-    let mut i = 0;
     let mut n = 0;
-    while i < text.len() {
-        let e = lines::find_byte(text, i, 10);
-        let u = reading::use_of(&text[i..e], reg);
+    for line in lines::each::each(text) {
+        let u = reading::use_of(line.bytes, reg);
         if 1 < u.reads {
             return false;
         }
@@ -229,7 +216,6 @@ fn read_once(text: &[u8], reg: names::Register) -> bool
         if 1 < n {
             return false;
         }
-        i = lines::after(text, e);
     }
     n == 1
 }
@@ -622,6 +608,7 @@ fn mark_with(
     let mut run = 0;
     let mut i = 0;
     let mut k = 0;
+    // Kept: where a line ends is read from a table, and its bytes are not gone over for it.
     while i < text.len() {
         let e = noted::end_at(text, i, k, ends);
         run = area_at(text, i, e, run);
@@ -728,6 +715,7 @@ fn put_acts(text: &[u8], marks: &[u8], ends: &[usize], out: &mut [u8]) -> usize
     let mut a = 0;
     let mut b = 0;
     let mut c = 0;
+    // Kept: where a line ends is read from a table, and its bytes are not gone over for it.
     while i < text.len() {
         let e = noted::end_at(text, i, k, ends);
         let m = lines::byte_at(marks, k);
@@ -836,13 +824,11 @@ pub fn moves_of(marks: &[u8], moves: &mut [usize]) -> usize
     requires { length marks.now ≤ length moves.old }
     ensures { Wrote moves.old 0 (move_marks marks.now) moves.new result }
 {
-    let mut i = 0;
-    while i < marks.len() {
+    for i in 0..marks.len() {
         let next = lines::byte_at(marks, i + 1);
         moves[i] = move_at(marks[i], next);
-        i += 1;
     }
-    i
+    marks.len()
 }
 
 // Writes the lines of a text without dead stores and scratch loads, with each value that is read once, on the next line, in that line, and

@@ -1,31 +1,22 @@
-use native.Mathlib.Omega.{arith}
 use mathlib.Core.Path.{sym, ◌∙◌}
 use Rattle.once.proofs.CallLaws.{any-header, any_found, any-on, any-end}
+use Rattle.lines.proofs.EachLaws.{goes, stops}
 use Rattle.once.proofs.any_call.Goals as goal
 
 pub returns-then-is_header : goal.returns-then-is_header
-returns-then-is_header c = let l = c.loop-i in
-    let a = c.args in
-    let f = c.find_byte-e in
-    let w = c.cut-line in
-    sym (any-header a.x.now a.text.now l.i f.result c.loop-i-test.true f.ensures w.result.now w.ensures (sym c.is_header.ensures ∙ c.if-is_header.true)) ∙ l.invariant
+returns-then-is_header c = let k = goes c.loop-line.invariant.0 c.in-Some.ensures.steps in let a = c.args in
+    sym (any-header a.x.now a.text.now c.loop-line.line-iterator.at c.in-Some.line.to k.here.starts k.here.to c.in-Some.line.bytes.now k.here.bytes (sym c.is_header.ensures ∙ c.if-is_header.true)) ∙ c.loop-line.invariant.1
 
 pub returns-then-line_calls : goal.returns-then-line_calls
-returns-then-line_calls c = let l = c.loop-i in
-    let a = c.args in
-    let f = c.find_byte-e in
-    let w = c.cut-line in
-    sym (any_found a.x.now a.text.now l.i f.result c.loop-i-test.true f.ensures w.result.now w.ensures (sym c.is_header.ensures ∙ c.if-is_header.false) (sym c.line_calls.ensures ∙ c.if-line_calls.true)) ∙ l.invariant
+returns-then-line_calls c = let k = goes c.loop-line.invariant.0 c.in-Some.ensures.steps in let a = c.args in
+    sym (any_found a.x.now a.text.now c.loop-line.line-iterator.at c.in-Some.line.to k.here.starts k.here.to c.in-Some.line.bytes.now k.here.bytes (sym c.is_header.ensures ∙ c.if-is_header.false) (sym c.line_calls.ensures ∙ c.if-line_calls.true)) ∙ c.loop-line.invariant.1
 
-pub loop-i-smaller : goal.loop-i-smaller
-loop-i-smaller c = omega (arith, c.after-i.ensures, c.find_byte-e.ensures, c.loop-i-test.true)
-
-pub loop-i-preserved : goal.loop-i-preserved
-loop-i-preserved c = let l = c.loop-i in
-    let a = c.args in
-    let f = c.find_byte-e in
-    let w = c.cut-line in
-    sym (any-on a.x.now a.text.now l.i f.result c.loop-i-test.true f.ensures w.result.now w.ensures (sym c.is_header.ensures ∙ c.if-is_header.false) (sym c.line_calls.ensures ∙ c.if-line_calls.false) c.after-i.result c.after-i.ensures) ∙ l.invariant
+pub loop-line-preserved : goal.loop-line-preserved
+loop-line-preserved c = let k = goes c.loop-line.invariant.0 c.in-Some.ensures.steps in (
+  k.on,
+  let a = c.args in
+      sym (any-on a.x.now a.text.now c.loop-line.line-iterator.at c.in-Some.line.to k.here.starts k.here.to c.in-Some.line.bytes.now k.here.bytes (sym c.is_header.ensures ∙ c.if-is_header.false) (sym c.line_calls.ensures ∙ c.if-line_calls.false) _ k.here.next) ∙ c.loop-line.invariant.1,
+)
 
 pub returns : goal.returns
-returns c = sym (any-end _ _ _ c.loop-i-test.false) ∙ c.loop-i.invariant
+returns c = sym (any-end _ _ _ (stops c.loop-line.invariant.0 c.in-None.ensures.steps)) ∙ c.loop-line.invariant.1

@@ -1,12 +1,9 @@
-use Prim.Native.Nat.{◌-◌}
 use mathlib.Core.Path.{◌≡◌}
-use lib.ListN.{length, drop}
+use lib.ListN.{drop}
 use Rattle.lines.specs.Lf.{lines_of}
 use Rattle.once.specs.Inner.Tables.{any_call}
+use Rattle.lines.proofs.EachLaws.{Over}
 use Rattle.once.proofs.any_call.Given as goal
 
-abbrev pub invariant-loop-i : goal.invariant-loop-i
-invariant-loop-i l = any_call l.x (lines_of (drop l.i l.text)) ≡ any_call l.x (lines_of l.text)
-
-abbrev pub decreases-loop-i : goal.decreases-loop-i
-decreases-loop-i l = length l.text - l.i
+abbrev pub invariant-loop-line : goal.invariant-loop-line
+invariant-loop-line l = let it = l.line-iterator in Over l.text it × (any_call l.x (lines_of (drop it.at l.text)) ≡ any_call l.x (lines_of l.text))

@@ -1,12 +1,9 @@
-use Prim.Native.Nat.{◌-◌, ◌≤◌}
 use mathlib.Core.Path.{◌≡◌}
-use lib.ListN.{length, drop}
+use lib.ListN.{drop}
 use Rattle.lines.specs.Lf.{lines_of}
 use Rattle.once.specs.Scratch.{called_below}
+use Rattle.lines.proofs.EachLaws.{Over}
 use Rattle.once.proofs.called_below.Given as goal
 
-abbrev pub invariant-loop-i : goal.invariant-loop-i
-invariant-loop-i l = (l.i ≤ length l.text) × (called_below l.x (lines_of (drop l.i l.text)) ≡ called_below l.x (lines_of l.text))
-
-abbrev pub decreases-loop-i : goal.decreases-loop-i
-decreases-loop-i l = length l.text - l.i
+abbrev pub invariant-loop-line : goal.invariant-loop-line
+invariant-loop-line l = let it = l.line-iterator in Over l.text it × (called_below l.x (lines_of (drop it.at l.text)) ≡ called_below l.x (lines_of l.text))

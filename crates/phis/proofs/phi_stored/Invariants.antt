@@ -9,4 +9,4 @@ use Rattle.lines.proofs.EachLaws.{Over}
 use Rattle.phis.proofs.phi_stored.Given as goal
 
 abbrev pub invariant-loop-line : goal.invariant-loop-line
-invariant-loop-line l = let it = l.line-iterator in (Over l.text it) × ((any_one (λ (x : List ℕ). stores_it l.phi.0 x) (lines_of (drop it.at l.text)) ≡ phi_stored l.phi.0 (lines_of l.text)))
+invariant-loop-line l = let it = l.line-iterator in Over l.text it × (any_one (λ (x : List ℕ). stores_it l.phi.0 x) (lines_of (drop it.at l.text)) ≡ phi_stored l.phi.0 (lines_of l.text))

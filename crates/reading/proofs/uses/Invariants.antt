@@ -6,4 +6,4 @@ use Rattle.lines.proofs.EachLaws.{Over}
 use Rattle.reading.proofs.uses.Given as goal
 
 abbrev pub invariant-loop-line : goal.invariant-loop-line
-invariant-loop-line l = let it = l.line-iterator in (Over l.text it) × ((used_in l.reg.0 (lines_of (drop it.at l.text)) ≡ used_in l.reg.0 (lines_of l.text)))
+invariant-loop-line l = let it = l.line-iterator in Over l.text it × (used_in l.reg.0 (lines_of (drop it.at l.text)) ≡ used_in l.reg.0 (lines_of l.text))

@@ -4,4 +4,4 @@ use Rattle.lines.proofs.EachLaws.{Over}
 use Rattle.temps.proofs.table.flag_decls.Given as goal
 
 abbrev pub invariant-loop-line : goal.invariant-loop-line
-invariant-loop-line l = let it = l.line-iterator in (Over l.text it) × (FlagInv (flag_decls l.own) l.text l.initial.table l.table it.at)
+invariant-loop-line l = let it = l.line-iterator in Over l.text it × (FlagInv (flag_decls l.own) l.text l.initial.table l.table it.at)
