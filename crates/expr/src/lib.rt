@@ -36,6 +36,7 @@ fn strip_each(s: &[u8], out: &mut [u8], o: usize) -> usize
     let mut i = 0;
     let mut n = o;
     let mut inside = false;
+    // Kept: the place moves by the bytes of what opens and closes a comment.
     while i < s.len() {
         if inside {
             if two_at(s, i, b'*', b'/') {
@@ -80,6 +81,7 @@ fn strip_quoted(s: &[u8], out: &mut [u8], o: usize) -> usize
     let mut i = 0;
     let mut n = o;
     let mut inside = false;
+    // Kept: the place moves by the bytes of what opens and closes a comment.
     while i < s.len() {
         let b = s[i];
         if inside {

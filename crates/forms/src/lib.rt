@@ -120,6 +120,7 @@ fn no_operator(t: &[u8]) -> bool
     let mut i = 0;
     let mut opened = 0;
     let mut closed = 0;
+    // Kept: the place moves past a quote.
     while i < t.len() {
         let x = t[i];
         if text::is_quote(x) {

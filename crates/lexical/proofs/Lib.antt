@@ -5,6 +5,7 @@ pub mod TokenLaws
 pub mod TailLaws
 pub mod LexLaws
 pub mod PlainLaws
+pub mod EachLaws
 pub mod MildLaws
 pub mod PhiLaws
 pub mod WordLaws

@@ -1,6 +1,8 @@
 // Cleaning a line: comments go, and a literal leaves `S`; what is read from a cleaned line.
 #![tactic(auto)]
 
+pub mod tokens;
+
 ghost use Rattle.std.specs.Prelude.{◌≡◌, [], true, false, cond, not, ℕ, ◌+◌, ◌≤◌, ◌<◌, max, length, take, drop, get_or, MatchOption};
 ghost use Rattle.lines.specs.Ascii.{ascii};
 ghost use Rattle.lines.specs.Lf.{all, part, holds};
@@ -533,6 +535,7 @@ pub fn strip_lexical(s: &[u8], out: &mut [u8], o: usize) -> usize
     let mut p = o;
     let mut i = 0;
     let mut tail = no_tail();
+    // Kept: runs of plain bytes and tokens take turns, and a run is written at once.
     while i < s.len() {
         let j = plain_end(s, i);
         if i < j {
@@ -590,20 +593,13 @@ fn see_left(w: Seen, kind: Kind, b: u8) -> Seen
 pub fn phi_rhs_pure(s: &[u8]) -> bool
     ensures { result ≡ phi_rhs_pure s.now }
 {
-    let mut i = 0;
-    let mut tail = no_tail();
     let mut seen = Seen {
         prev: b' ',
         waits: false,
         effect: false,
     };
-    while i < s.len() {
-        let b = s[i];
-        let step = step_at(s, i, tail);
-        let kind = step.kind;
-        seen = see_left(seen, kind, b);
-        tail = step.tail;
-        i = step.next;
+    for token in tokens::each(s) {
+        seen = see_left(seen, token.kind, token.byte);
     }
     !(seen.effect | seen.waits)
 }
@@ -648,6 +644,7 @@ pub fn next_word(t: &[u8], i: usize) -> Option<text::Span>
 {
     let mut a = i;
     let mut j = i;
+    // Kept: the place moves by the bytes of a character.
     while j < t.len() {
         let e = j + char_len(t, j);
         if joins_word(&t[j..e], a == j) {
@@ -711,18 +708,13 @@ fn opens_template(s: &[u8], i: usize) -> bool
 fn open_tokens(s: &[u8]) -> Open
     ensures { result ≡ open_of s.now }
 {
-    let mut i = 0;
-    let mut tail = no_tail();
-    while i < s.len() {
-        if opens_comment(s, i) {
+    for token in tokens::each(s) {
+        if opens_comment(s, token.at) {
             return Open::Comment;
         }
-        if opens_template(s, i) {
+        if opens_template(s, token.at) {
             return Open::Template;
         }
-        let step = step_at(s, i, tail);
-        tail = step.tail;
-        i = step.next;
     }
     Open::Nothing
 }

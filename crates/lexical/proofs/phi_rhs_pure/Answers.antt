@@ -1,25 +1,22 @@
-use native.Mathlib.Omega.{arith}
-use Rattle.lexical.proofs.LexLaws.{lex-on}
-use Rattle.lexical.proofs.PhiLaws.{phi-start, phi-next, phi-end}
+use Rattle.std.proofs.Common.{ℕ, ap, ◌∙◌}
+use Rattle.lexical.specs.Lex.{leaves}
+use Rattle.lexical.specs.Inner.Phi.{sees_all, unseen}
+use Rattle.lexical.proofs.EachLaws.{step_of, goes, stops, front}
+use Rattle.lexical.proofs.PhiLaws.{PhiInv, phi-start, phi-next, phi-end}
 use Rattle.lexical.proofs.phi_rhs_pure.Goals as goal
 
-pub no_tail-tail-requires : goal.no_tail-tail-requires
-no_tail-tail-requires c = tt
+pub loop-token-init : goal.loop-token-init
+loop-token-init c =
+    let s = c.args.s.now in
+    let k = c.each-token-items.ensures in
+    front (λ i t. PhiInv s i t unseen) c.into_iter-token-iterator.ensures.into_iter_gives k.text k.front (phi-start s) k.none_left
 
-pub loop-i-init : goal.loop-i-init
-loop-i-init c = phi-start c.args.s.now _ c.no_tail-tail.ensures
-
-pub step_at-step-requires : goal.step_at-step-requires
-step_at-step-requires c = tt
-
-pub see_left-seen-requires : goal.see_left-seen-requires
-see_left-seen-requires c = tt
-
-pub loop-i-smaller : goal.loop-i-smaller
-loop-i-smaller c = let r = c.step_at-step in let m = lex-on c.loop-i.invariant.lex r.result r.ensures c.loop-i-test.true in omega arith
-
-pub loop-i-preserved : goal.loop-i-preserved
-loop-i-preserved c = let r = c.step_at-step in phi-next c.loop-i.invariant r.result r.ensures c.loop-i-test.true _ c.see_left-seen.ensures
+pub loop-token-preserved : goal.loop-token-preserved
+loop-token-preserved c =
+    let l = c.loop-token in
+    let k = c.in-Some.token in
+    let g = goes l.invariant.0 c.in-Some.ensures.steps in
+    (g.0, phi-next l.invariant.1 (step_of k c.next.new.self) g.1.step g.1.starts c.see_left-seen.result (c.see_left-seen.ensures ∙ ap (λ (b : ℕ). sees_all l.seen (leaves k.kind b)) g.1.byte))
 
 pub returns : goal.returns
-returns c = phi-end c.loop-i.invariant c.loop-i-test.false
+returns c = let l = c.loop-token in phi-end l.invariant.1 (stops l.invariant.0 c.in-None.ensures.steps)

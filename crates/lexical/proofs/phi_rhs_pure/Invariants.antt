@@ -1,10 +1,6 @@
-use Prim.Native.Nat.{◌-◌}
-use lib.ListN.{length}
+use Rattle.std.proofs.Common.{◌≡◌}
 use Rattle.lexical.proofs.PhiLaws.{PhiInv}
 use Rattle.lexical.proofs.phi_rhs_pure.Given as goal
 
-abbrev pub invariant-loop-i : goal.invariant-loop-i
-invariant-loop-i l = PhiInv l.s l.i l.tail l.seen
-
-abbrev pub decreases-loop-i : goal.decreases-loop-i
-decreases-loop-i l = length l.s - l.i
+abbrev pub invariant-loop-token : goal.invariant-loop-token
+invariant-loop-token l = let it = l.token-iterator in (it.text.now ≡ l.s) × PhiInv l.s it.at it.tail l.seen
