@@ -216,10 +216,8 @@ fn note_up(
     requires { (AtMost 0 near.old) × ((AtMost 0 stores.old) × ((AtMost 0 notes.old) × ((Told text.now ends.now ends.now m) × (m < 2 ^ 32)))) }
     ensures { Spans text.now notes.new }
 {
-    let mut k = m;
     let mut h = 0;
-    while 0 < k {
-        k -= 1;
+    for k in (0..m).rev() {
         let c = (m - k) as u32;
         let x = ends[k];
         let line = lines::cut(text, start_at(ends, k), x / 2);
@@ -237,12 +235,12 @@ fn passed(
     reg: names::Register,
     most: usize,
 ) -> usize
-    requires { m ≤ length ends.now }
+    requires { (m ≤ length ends.now) × (k ≤ m) }
     ensures { result ≤ most }
 {
-    let mut j = k;
-    let mut n = 0;
-    while (j < m) & (n < most) {
+    let end = most.min(m - k);
+    for n in 0..end {
+        let j = k + n;
         let x = ends[j];
         if x % 2 == 1 {
             return n;
@@ -250,10 +248,8 @@ fn passed(
         if reading::line_uses(lines::cut(text, start_at(ends, j), x / 2), reg) {
             return n;
         }
-        n += 1;
-        j += 1;
     }
-    n
+    end
 }
 
 // How many lines are passed below the one with k above it, where it stores a register that a call on the next line may take in.
@@ -284,11 +280,13 @@ fn pays(text: &[u8], ends: &[usize], m: usize) -> bool
         return false;
     }
     let most = m / SHARE;
+    let last = m - 1;
     let mut left = most;
-    let mut k = FIRST;
-    while (k < m - 1) & (0 < left) {
+    for k in (FIRST..last).step_by(STRIDE) {
+        if left == 0 {
+            return true;
+        }
         left -= probe(text, ends, m, k, left);
-        k += STRIDE;
     }
     left == 0
 }

@@ -81,20 +81,17 @@ fn takes(line: &[u8], starts: bool) -> bool
 fn read_later(below: &[u8], reg: names::Register) -> bool
     ensures { result ≡ read_later (leaves_of plain) reg.0 (lines_of below.now) }
 {
-    let mut i = 0;
-    while i < below.len() {
-        let e = lines::find_byte(below, i, 10);
-        if place::is_header(&below[i..e]) {
+    for line in lines::each::each(below) {
+        if place::is_header(line.bytes) {
             return false;
         }
-        let u = reading::use_of(&below[i..e], reg);
+        let u = reading::use_of(line.bytes, reg);
         if u.reads != 0 {
             return true;
         }
         if u.stores {
             return false;
         }
-        i = lines::after(below, e);
     }
     false
 }
@@ -153,19 +150,16 @@ fn breaks_if(taken: bool, value: &[u8], clean: &[u8], line: &[u8]) -> bool
 fn breaks_taken(value: &[u8], clean: &[u8], text: &[u8], owner: &[usize]) -> bool
     ensures { result ≡ breaks_down (breaks_with value.now (words_in clean.now)) (lines_of text.now) owner.now }
 {
-    let mut i = 0;
     let mut j = 0;
-    while i < text.len() {
+    for line in lines::each::each(text) {
         if j >= owner.len() {
             return false;
         }
-        let e = lines::find_byte(text, i, 10);
         let taken = owner[j] == owner.len() - j;
-        if breaks_if(taken, value, clean, &text[i..e]) {
+        if breaks_if(taken, value, clean, line.bytes) {
             return true;
         }
         j += 1;
-        i = lines::after(text, e);
     }
     false
 }
@@ -421,15 +415,13 @@ fn rebuild_lines(
     ensures { Rebuilt text.now blocks.now starts.now owner.old owner.new stack.new result }
 {
     let mut past = 0;
-    let mut n = 0;
     let mut o = 0;
-    while n < m {
+    for n in 0..m {
         past = records::refill(ends, blocks, m, n, past, recs);
         let rec = records::get(recs, n + recs.len() - past);
         o = turn_line(
             text, rec.start, rec.end, n, blocks, starts, notes, owner, stack, o, cur, next,
         );
-        n += 1;
     }
     o
 }

@@ -21,12 +21,6 @@ get-rec-requires c = (viewed-reach c.loop-n.invariant c.requires.1.1.1.1.1.1.0 c
 pub turn_line-o-requires : goal.turn_line-o-requires
 turn_line-o-requires c = (viewed-ready c.loop-n.invariant c.requires.1.1.1.1.1.1.0 c.loop-n-test.true c.refill-past.ensures.place c.refill-past.ensures.records c.get-rec.ensures, c.requires.1.1.1.1.1.1.1)
 
-pub overflow_add-n-in-loop-n : goal.overflow_add-n-in-loop-n
-overflow_add-n-in-loop-n c = omega (arith, c.loop-n-test.true, c.ranges.m)
-
-pub loop-n-smaller : goal.loop-n-smaller
-loop-n-smaller c = omega (arith, c.loop-n-test.true)
-
 pub loop-n-preserved : goal.loop-n-preserved
 loop-n-preserved c = let f = c.turn_line-o in viewed-on c.loop-n.invariant c.requires.1.1.1.1.1.1.0 c.loop-n-test.true c.refill-past.ensures.place c.refill-past.ensures.records c.get-rec.ensures f.ensures f.auto.owner f.auto.stack f.auto.cur f.auto.next
 

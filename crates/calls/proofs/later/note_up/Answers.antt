@@ -8,9 +8,6 @@ use Rattle.calls.proofs.later.note_up.Goals as goal
 pub loop-k-init : goal.loop-k-init
 loop-k-init c = upward-start c.args.own.now c.args.text.now c.args.near.now c.args.stores.now c.args.notes.now c.args.m c.requires.1.1.1.0.count c.requires.0 c.requires.1.0 c.requires.1.1.0
 
-pub overflow_sub-k : goal.overflow_sub-k
-overflow_sub-k c = omega (arith, c.loop-k-test.true)
-
 pub overflow_sub-c : goal.overflow_sub-c
 overflow_sub-c c = omega (arith, c.loop-k.invariant.within, c.requires.1.1.1.0.count)
 
@@ -25,9 +22,6 @@ bounds-ends-k c = omega (arith, c.loop-k-test.true, c.loop-k.invariant.within, c
 
 pub start_at-requires : goal.start_at-requires
 start_at-requires c = omega (arith, c.loop-k.invariant.within, c.requires.1.1.1.0.count, (told-long c.requires.1.1.1.0).0)
-
-pub loop-k-smaller : goal.loop-k-smaller
-loop-k-smaller c = omega (arith, c.loop-k-test.true)
 
 pub loop-k-preserved : goal.loop-k-preserved
 loop-k-preserved c = let w = c.requires.1.1.1.0 in let i : c.loop-k.k - 1 < c.args.m = omega (arith, c.loop-k-test.true, c.loop-k.invariant.within, w.count) in let n = c.note_line.ensures in upward-on c.loop-k.invariant (c.loop-k.k - 1) (c.args.m - (c.loop-k.k - 1)) (omega (arith, c.loop-k-test.true)) refl (ap (λ (x : ℕ). x - (c.loop-k.k - 1)) w.count) (line-found w (c.loop-k.k - 1) i refl c.start_at.ensures c.cut-line.ensures) n.reads n.stores n.notes (c.head_at-h.ensures ∙ head-found w (c.loop-k.k - 1) i refl (c.args.m - (c.loop-k.k - 1)) c.loop-k.h)
