@@ -2,10 +2,10 @@
 use Rattle.std.proofs.Common.{◌≡◌, ℕ, zero, suc, ◌+◌, ◌<◌, ◌≤◌, Bool, true, false, cond, not, ◌||◌, ◌==◌, List, [], ◌∷◌, length, refl, sym, ◌∙◌, arith}
 use Rattle.std.specs.Prelude.{position, count_by, unwrap_or, None, Some, nat_lt, nat_eq}
 use Rattle.lines.specs.Inner.Lf.{lacks}
-use Rattle.std.specs.List.{list_any, position_or_len, starts_with}
+use Rattle.std.specs.List.{list_all, list_any, position_or_len, starts_with}
 use Rattle.std.proofs.lemmas.List.Recursion.{is_position_or_len, is_count_by}
 use Rattle.lines.proofs.LfLaws.{up_to-le}
-use Rattle.lines.specs.Lf.{up_to, count_of, prefixed}
+use Rattle.lines.specs.Lf.{all, up_to, count_of, prefixed}
 
 pub up_to_is_first : (b : ℕ) (s : List ℕ) → up_to b s ≡ position_or_len (λ x. x == b) s
 unfolding up_to
@@ -40,3 +40,8 @@ lacks_is_none b (x ∷ xs) = go (x == b) (lacks_is_none b xs)
     go : (t : Bool) → not (list_any (λ x. x == b) xs) ≡ lacks b xs → not (t || list_any (λ x. x == b) xs) ≡ cond t false (lacks b xs)
     go true h = refl
     go false h = h
+
+-- `iter().all(f)`
+pub all_is_list_all : {A : Type 0} (f : A → Bool) (s : List A) → all f s ≡ list_all f s
+all_is_list_all f [] = refl
+all_is_list_all f (x ∷ xs) = rw (all_is_list_all f xs)

@@ -1,9 +1,9 @@
 // The names of registers, phis and temps.
 #![tactic(auto)]
 
-ghost use Rattle.std.specs.Prelude.{◌≡◌, [], ◌∷◌, ◌++◌, ◌≤◌, length};
+ghost use Rattle.std.specs.Prelude.{◌≡◌, ◌-◌, true, false, MatchOption, [], ◌∷◌, ◌++◌, ◌≤◌, length};
 ghost use Rattle.lines.specs.Lf.{same};
-ghost use Rattle.names.specs.Names.{all_digits, read_number, decimal, reg_by, reg_of, phi_of, is_temp, reg_text, phi_text, reg_is, is_ident};
+ghost use Rattle.names.specs.Names.{is_digit, all_digits, read_number, decimal, reg_by, reg_of, phi_of, is_temp, reg_text, phi_text, reg_is, is_ident};
 ghost use Rattle.names.specs.Inner.Names.{zeros, number_after};
 
 // A register, a phi: numbers of their own, so that a table of one cannot be asked with another.
@@ -13,32 +13,31 @@ pub struct Register(pub u64);
 #[derive(Clone, Copy)]
 pub struct Phi(pub u64);
 
-const MOST: u64 = 18446744073709551615;
-
 // The number that at most so many digits are fits 64 bits, whatever they are.
 const FEW: usize = 9;
+
+// The number that a digit is.
+fn digit(d: u8) -> Option<u64>
+    ensures { MatchOption result (is_digit d ≡ false) (λ x. (is_digit d ≡ true) × (x ≡ d - 48) × (x ≤ 9)) }
+{
+    if d.is_ascii_digit() {
+        Some((d - b'0') as u64)
+    } else {
+        None
+    }
+}
 
 // The number that few digits are.
 fn read_few(s: &[u8]) -> Option<u64>
     requires { length s.now ≤ 9 }
     ensures { result ≡ read_number s.now }
 {
-    if s.len() == 0 {
+    if s.is_empty() {
         return None;
     }
-    let mut v: u64 = 0;
-    let mut i = 0;
-    while i < s.len() {
-        let d = s[i];
-        if d < b'0' {
-            return None;
-        }
-        if b'9' < d {
-            return None;
-        }
-        let x = (d - b'0') as u64;
-        v = v * 10 + x;
-        i += 1;
+    let mut v = 0;
+    for &d in s {
+        v = v * 10 + digit(d)?;
     }
     Some(v)
 }
@@ -47,29 +46,13 @@ fn read_few(s: &[u8]) -> Option<u64>
 fn read_many(s: &[u8]) -> Option<u64>
     ensures { result ≡ read_number s.now }
 {
-    if s.len() == 0 {
+    if s.is_empty() {
         return None;
     }
     let mut v: u64 = 0;
-    let mut i = 0;
-    while i < s.len() {
-        let d = s[i];
-        if d < b'0' {
-            return None;
-        }
-        if b'9' < d {
-            return None;
-        }
-        let x = (d - b'0') as u64;
-        if MOST / 10 < v {
-            return None;
-        }
-        let w = v * 10;
-        if MOST - x < w {
-            return None;
-        }
-        v = w + x;
-        i += 1;
+    for &d in s {
+        let x = digit(d)?;
+        v = v.checked_mul(10)?.checked_add(x)?;
     }
     Some(v)
 }
@@ -88,14 +71,13 @@ pub fn read_number(s: &[u8]) -> Option<u64>
 pub fn skip_zeros(s: &[u8]) -> usize
     ensures { result ≡ zeros s.now }
 {
-    let mut i = 0;
-    while i + 1 < s.len() {
+    let most = s.len().saturating_sub(1);
+    for i in 0..most {
         if s[i] != b'0' {
             return i;
         }
-        i += 1;
     }
-    i
+    most
 }
 
 // The number that follows a word, where the word stands in front.
@@ -112,23 +94,14 @@ fn number_after(s: &[u8], p: &[u8]) -> Option<u64>
 fn digit_name(d: u8) -> Option<Register>
     ensures { result ≡ reg_by (read_number (d ∷ [])) }
 {
-    if d < b'0' {
-        return None;
-    }
-    if b'9' < d {
-        return None;
-    }
-    Some(Register((d - b'0') as u64))
+    Some(Register(digit(d)?))
 }
 
 // The register that a text names.
 fn long_name(s: &[u8]) -> Option<Register>
     ensures { result ≡ reg_of s.now }
 {
-    match number_after(s, b"r") {
-        Some(n) => Some(Register(n)),
-        None => None,
-    }
+    Some(Register(number_after(s, b"r")?))
 }
 
 // The same: most texts do not begin with `r`, or have one digit.
@@ -148,28 +121,14 @@ pub fn reg_name(s: &[u8]) -> Option<Register>
 pub fn phi_name(s: &[u8]) -> Option<Phi>
     ensures { result ≡ phi_of s.now }
 {
-    match number_after(s, b"phi") {
-        Some(n) => Some(Phi(n)),
-        None => None,
-    }
+    Some(Phi(number_after(s, b"phi")?))
 }
 
 // Whether all bytes are digits.
 fn all_digits(s: &[u8]) -> bool
     ensures { result ≡ all_digits s.now }
 {
-    let mut i = 0;
-    while i < s.len() {
-        let d = s[i];
-        if d < b'0' {
-            return false;
-        }
-        if b'9' < d {
-            return false;
-        }
-        i += 1;
-    }
-    true
+    s.iter().all(|d| d.is_ascii_digit())
 }
 
 // Whether a text names a temp: temps are compared by their text, so it has no number.
@@ -246,12 +205,5 @@ pub fn is_simple_ident(s: &[u8]) -> bool
     if (b'0' <= d) & (d <= b'9') {
         return false;
     }
-    let mut i = 0;
-    while i < s.len() {
-        if !text::is_name_byte(s[i]) {
-            return false;
-        }
-        i += 1;
-    }
-    true
+    s.iter().all(|b| text::is_name_byte(*b))
 }

@@ -158,11 +158,11 @@ pub fn seq_at(s: &[u8], i: usize) -> usize
     if i >= s.len() {
         return 0;
     }
-    let a = byte(s, i);
-    if a < 0x80 {
+    let lead = byte(s, i);
+    if lead < 0x80 {
         return 1;
     }
-    seq_len(a, byte(s, i + 1), byte(s, i + 2), byte(s, i + 3))
+    seq_len(lead, byte(s, i + 1), byte(s, i + 2), byte(s, i + 3))
 }
 
 // Whether a text is UTF-8, and where it is not, sequence by sequence.

@@ -1,18 +1,12 @@
-use mathlib.Core.Path.{sym, ◌∙◌}
-use Prim.Native.Nat.{ℕ}
-use Rattle.lines.proofs.Tests.{is-in, is_below, is-above}
+use borrow.Author.Tests.{tests}
+use Rattle.std.proofs.Common.{rules, sym, ◌∙◌}
+use Rattle.std.proofs.lemmas.Iterator.{YieldsList-from_slice}
+use Rattle.std.proofs.lemmas.Iterator.Search.{all_from_yields_List}
+use Rattle.lines.proofs.Chains.{all_is_list_all}
 use Rattle.names.specs.Names.{is_digit}
-use Rattle.names.proofs.Digits.{all-stop, all-on, all_end}
 use Rattle.names.proofs.all_digits.Goals as goal
 
-pub returns-then-d-lt48 : goal.returns-then-d-lt48
-returns-then-d-lt48 c = let s = c.args.s.now in let l = c.loop-i in sym (all-stop (λ (d : ℕ). is_digit d) s l.i c.loop-i-test.true (is_below 48 57 _ c.if-d-lt48.true)) ∙ l.invariant
-
-pub returns-then-d-gt57 : goal.returns-then-d-gt57
-returns-then-d-gt57 c = let s = c.args.s.now in let l = c.loop-i in sym (all-stop (λ (d : ℕ). is_digit d) s l.i c.loop-i-test.true (is-above 48 57 _ c.if-d-gt57.true)) ∙ l.invariant
-
-pub loop-i-preserved : goal.loop-i-preserved
-loop-i-preserved c = let s = c.args.s.now in let l = c.loop-i in sym (all-on (λ (d : ℕ). is_digit d) s l.i c.loop-i-test.true (is-in 48 57 _ c.if-d-lt48.false c.if-d-gt57.false)) ∙ l.invariant
-
 pub returns : goal.returns
-returns c = let l = c.loop-i in sym (all_end (λ (d : ℕ). is_digit d) c.args.s.now l.i c.loop-i-test.false) ∙ l.invariant
+returns c =
+    let s = c.args.s.now in
+    all_from_yields_List (λ d. is_digit d) _ _ _ c.all.ensures.ran (YieldsList-from_slice s (cc)) (λ x b q k. search (rules, tests)) ∙ sym (all_is_list_all (λ d. is_digit d) s)

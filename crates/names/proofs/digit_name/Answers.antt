@@ -1,14 +1,9 @@
-use mathlib.Core.Path.{sym}
-use native.Mathlib.Omega.{arith}
-use Rattle.lines.proofs.Tests.{is-in, is_below, is-above}
+use mathlib.Core.Path.{sym, ◌∙◌}
 use Rattle.names.proofs.Texts.{digit-other, digit-is}
 use Rattle.names.proofs.digit_name.Goals as goal
 
-pub returns-then-d-lt48 : goal.returns-then-d-lt48
-returns-then-d-lt48 c = let d = c.args.d in sym (digit-other d (is_below 48 57 d (omega arith)))
-
-pub returns-then-d-gt57 : goal.returns-then-d-gt57
-returns-then-d-gt57 c = let d = c.args.d in sym (digit-other d (is-above 48 57 d (omega arith)))
+pub returns-in_err-digit : goal.returns-in_err-digit
+returns-in_err-digit c = c.from_residual.ensures ∙ sym (digit-other c.args.d c.in_err-digit.ensures)
 
 pub returns : goal.returns
-returns c = let d = c.args.d in sym (digit-is d (is-in 48 57 d (omega arith) (omega arith)))
+returns c = let e = c.in_ok-digit.ensures in rw e.1 (sym (digit-is c.args.d e.0))

@@ -3,8 +3,8 @@ use Rattle.names.specs.Names.{phi_by}
 use Rattle.names.proofs.Texts.{phi-by}
 use Rattle.names.proofs.phi_name.Goals as goal
 
-pub returns-in-Some : goal.returns-in-Some
-returns-in-Some c = sym (phi-by c.args.s.now ∙ ap phi_by (sym c.number_after.ensures ∙ c.in-Some.is))
+pub returns-in_err-number_after : goal.returns-in_err-number_after
+returns-in_err-number_after c = c.from_residual.ensures ∙ sym (phi-by c.args.s.now ∙ ap phi_by (sym c.number_after.ensures ∙ c.in_err-number_after.was))
 
-pub returns-in-None : goal.returns-in-None
-returns-in-None c = sym (phi-by c.args.s.now ∙ ap phi_by (sym c.number_after.ensures ∙ c.in-None.is))
+pub returns : goal.returns
+returns c = sym (phi-by c.args.s.now ∙ ap phi_by (sym c.number_after.ensures ∙ c.in_ok-number_after.was))

@@ -1,34 +1,27 @@
 use mathlib.Core.Path.{sym, ap, ◌∙◌}
+use Prim.Native.Nat.{◌+◌, ◌*◌}
 use native.Mathlib.Omega.{arith}
-use lib.ListN.{drop_of_length-le}
-use Rattle.lines.proofs.Tests.{is-in, is_below, is-above}
+use lib.ListN.{drop, drop_of_length-le}
+use Rattle.std.proofs.lemmas.Bool.Decides.{nat_tests}
 use Rattle.names.specs.Names.{numbered}
 use Rattle.names.proofs.Digits.{number-none, number-some, number-other, number-digit, number-end, few-below, few-more}
 use Rattle.names.proofs.read_few.Goals as goal
 
-pub returns-then-s-eq0 : goal.returns-then-s-eq0
-returns-then-s-eq0 c = sym (number-none _ c.if-s-eq0.true)
+pub returns-then-is_empty : goal.returns-then-is_empty
+returns-then-is_empty c = sym (number-none _ (grind (arith, nat_tests)))
 
-pub loop-i-init : goal.loop-i-init
-loop-i-init c = ((omega arith, omega arith), sym (number-some c.args.s.now (omega arith)))
+pub loop-d-init : goal.loop-d-init
+loop-d-init c = (omega arith, sym (number-some c.args.s.now (grind (arith, nat_tests))))
 
-pub returns-then-d-lt48 : goal.returns-then-d-lt48
-returns-then-d-lt48 c = let s = c.args.s.now in let l = c.loop-i in sym (number-other s l.i l.v c.loop-i-test.true (is_below 48 57 _ c.if-d-lt48.true)) ∙ l.invariant.1
+pub returns-in_err-v : goal.returns-in_err-v
+returns-in_err-v c = let s = c.args.s.now in let l = c.loop-d in c.from_residual.ensures ∙ sym (number-other s l.d-index l.v c.loop-d-test.true c.in_err-v.ensures) ∙ l.invariant.1
 
-pub returns-then-d-gt57 : goal.returns-then-d-gt57
-returns-then-d-gt57 c = let s = c.args.s.now in let l = c.loop-i in sym (number-other s l.i l.v c.loop-i-test.true (is-above 48 57 _ c.if-d-gt57.true)) ∙ l.invariant.1
-
-pub overflow_cast-x : goal.overflow_cast-x
-overflow_cast-x c = omega (arith, c.shared_slice_known-1.given c.loop-i.i)
-
-pub overflow_mul-v : goal.overflow_mul-v
-overflow_mul-v c = let l = c.loop-i in omega (arith, few-below l.i l.v (omega arith) l.invariant.0.1)
-
-pub overflow_add-v : goal.overflow_add-v
-overflow_add-v c = let l = c.loop-i in omega (arith, few-below l.i l.v (omega arith) l.invariant.0.1)
-
-pub loop-i-preserved : goal.loop-i-preserved
-loop-i-preserved c = let s = c.args.s.now in let l = c.loop-i in ((omega arith, few-more l.i l.v _ (omega arith) l.invariant.0.1), sym (number-digit s l.i l.v c.loop-i-test.true (is-in 48 57 _ c.if-d-lt48.false c.if-d-gt57.false)) ∙ l.invariant.1)
+pub loop-d-preserved : goal.loop-d-preserved
+loop-d-preserved c =
+    let s = c.args.s.now in
+    let l = c.loop-d in
+    let d = c.in_ok-v.ensures in
+    (few-more l.d-index l.v _ d.2 l.invariant.0, ap (λ x. numbered (l.v * 10 + x) (drop (l.d-index + 1) s)) d.1 ∙ sym (number-digit s l.d-index l.v c.loop-d-test.true d.0) ∙ l.invariant.1)
 
 pub returns : goal.returns
-returns c = let s = c.args.s.now in let l = c.loop-i in sym (number-end l.v (omega (arith, few-below l.i l.v (omega arith) l.invariant.0.1))) ∙ sym (ap (numbered l.v) (drop_of_length-le s c.loop-i-test.false)) ∙ l.invariant.1
+returns c = let s = c.args.s.now in let l = c.loop-d in sym (number-end l.v (omega (arith, few-below l.d-index l.v (omega arith) l.invariant.0))) ∙ sym (ap (numbered l.v) (drop_of_length-le s c.loop-d-test.false)) ∙ l.invariant.1

@@ -1,11 +1,8 @@
 use mathlib.Core.Path.{◌≡◌}
-use Prim.Native.Nat.{◌≤◌, ◌<◌, ◌^◌, ◌-◌}
-use lib.ListN.{length, drop}
+use Prim.Native.Nat.{◌<◌, ◌^◌}
+use lib.ListN.{drop}
 use Rattle.names.specs.Names.{numbered, read_number}
 use Rattle.names.proofs.read_few.Given as goal
 
-abbrev pub invariant-loop-i : goal.invariant-loop-i
-invariant-loop-i l = ((l.i ≤ length l.s) × (l.v < 10 ^ l.i)) × (numbered l.v (drop l.i l.s) ≡ read_number l.s)
-
-abbrev pub decreases-loop-i : goal.decreases-loop-i
-decreases-loop-i l = length l.s - l.i
+abbrev pub invariant-loop-d : goal.invariant-loop-d
+invariant-loop-d l = (l.v < 10 ^ l.d-index) × (numbered l.v (drop l.d-index l.s) ≡ read_number l.s)
