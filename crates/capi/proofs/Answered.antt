@@ -3,8 +3,7 @@ use Prim.Native.Nat.{ℕ}
 use mathlib.Core.Path.{◌≡◌, ◌∙◌, ap, subst}
 use mathlib.Core.List.{List}
 use Rattle.limits.specs.declared.Limits.{Limits}
-use Rattle.limits.specs.declared.Answer.{Answer}
-use Rattle.limits.specs.Answer.{number_of, length_of, place_of}
+use Rattle.limits.specs.Answer.{Answer, number_of, length_of, place_of}
 use Rattle.limits.specs.Entry.{out_after}
 use Rattle.opt.specs.Room.{After, AfterLarge}
 

@@ -3,7 +3,7 @@ use Rattle.std.specs.Prelude.{ℕ, Bool, cond, ◌||◌, List, eqb, length}
 use Rattle.origins.specs.declared.Form.{Form}
 use Rattle.origins.specs.declared.Form.TheVariants as form-is
 use Rattle.reading.specs.Reading.{reading_of}
-use Rattle.limits.specs.declared.Answer.{Answer}
+use Rattle.limits.specs.Answer.{Answer}
 use Rattle.steps.specs.Step.{step_of, step_fates}
 use Rattle.passes.specs.Passes.{result_of, origins_of}
 use Rattle.opt.specs.Whole.{whole, whole_fates}

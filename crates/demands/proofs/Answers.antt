@@ -12,8 +12,7 @@ use Rattle.text.specs.Utf8Form.{utf8_of}
 use Rattle.origins.specs.declared.Form.{Form}
 use Rattle.origins.specs.declared.Form.TheVariants as form
 use Rattle.limits.specs.declared.Limits.{Limits}
-use Rattle.limits.specs.declared.Answer.{Answer}
-use Rattle.limits.specs.Answer.{number_of, length_of, place_of}
+use Rattle.limits.specs.Answer.{Answer, number_of, length_of, place_of}
 use Rattle.limits.specs.Entry.{small, large, is_wide, records_need, roomed, answer_of, modes, whole_answer, pass_answer}
 use Rattle.limits.proofs.AnswerLaws.{mode-bad, mode-good, lines-many, lines-wide, text-long, text-read}
 

@@ -4,7 +4,7 @@ use mathlib.Core.Path.{◌≡◌, ap, sym, ◌∙◌}
 use mathlib.Core.List.{List}
 use Rattle.lines.specs.Lf.{lines_of}
 use Rattle.lines.specs.Steps.{joined}
-use Rattle.limits.specs.declared.Answer.{Answer}
+use Rattle.limits.specs.Answer.{Answer}
 use Rattle.limits.specs.Entry.{out_after}
 use Rattle.limits.proofs as limits
 use Rattle.limits.specs.contracts as said

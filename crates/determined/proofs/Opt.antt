@@ -5,7 +5,7 @@ use mathlib.Core.List.{List}
 use Rattle.origins.specs.declared.Form.TheVariants as form-is
 use Rattle.reading.specs.Reading.{reading_of}
 use Rattle.limits.specs.declared.Limits.{Limits}
-use Rattle.limits.specs.declared.Answer.{Answer}
+use Rattle.limits.specs.Answer.{Answer}
 use Rattle.steps.specs.Step.{step_of, step_fates}
 use Rattle.passes.specs.Passes.{result_of, origins_of}
 use Rattle.passes.specs.Inner.Passes.{steps_of, steps_fates}

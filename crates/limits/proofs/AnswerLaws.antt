@@ -23,20 +23,20 @@ use Rattle.flaws.specs.declared.Flaw as flaw
 use Rattle.flaws.specs.declared.Flaw.TheVariants as flaw-is
 use Rattle.flaws.specs.Flaws.{flaw_of}
 use Rattle.limits.specs.declared.Limits.{Limits}
-use Rattle.limits.specs.declared.Answer.{Answer}
-use Rattle.limits.specs.declared.Answer.TheVariants.{Done, BadPass, TooLong, ShortWork, TooManyLines, ShortResult, BadMode, ShortRecords, WideLines}
-use Rattle.limits.specs.Answer.{number_of, length_of, place_of, passes_ran, is_done}
+use Rattle.limits.specs.declared.Refusal.TheVariants.{BadPass, TooLong, ShortWork, TooManyLines, ShortResult, BadMode, ShortRecords, WideLines}
+use Rattle.std.specs.declared.result.Result.TheVariants.{Ok, Err}
+use Rattle.limits.specs.Answer.{Answer, number_of, length_of, place_of, passes_ran, is_done}
 use Rattle.limits.specs.Entry.{small, large, is_wide, by_flaw, by_utf8, by_crowd, checked_lines, checked, records_need, roomed, answer_of, modes, in_mode, whole_answer, pass_answer, blank, work_after, out_after}
 use Rattle.limits.specs.Inner.Sane.{Sane, Within}
 
 -- ---- one check after the other
 
 module _ (L : Limits) (F : Form) (t : List ℕ) (fine : Answer) where
-  pub lines-many : L.lines < length (split_lines t) → TooManyLines L.lines ≡ checked_lines L F t fine
+  pub lines-many : L.lines < length (split_lines t) → Err (TooManyLines L.lines) ≡ checked_lines L F t fine
   unfolding checked_lines
   lines-many h = rw (lt-ltb L.lines (length (split_lines t)) h)
 
-  pub lines-wide : length (split_lines t) ≤ L.lines → is_wide F (length (split_lines t)) ≡ true → WideLines ≡ checked_lines L F t fine
+  pub lines-wide : length (split_lines t) ≤ L.lines → is_wide F (length (split_lines t)) ≡ true → (Err WideLines) ≡ checked_lines L F t fine
   unfolding checked_lines
   lines-wide h w = rw (le-ltb L.lines (length (split_lines t)) h, w)
 
@@ -45,11 +45,11 @@ module _ (L : Limits) (F : Form) (t : List ℕ) (fine : Answer) where
   lines-few h w e = rw (le-ltb L.lines (length (split_lines t)) h, w, e)
 
   module _ (short : Bool) where
-    pub text-long : L.bytes < length t → TooLong L.bytes ≡ checked L F short t fine
+    pub text-long : L.bytes < length t → Err (TooLong L.bytes) ≡ checked L F short t fine
     unfolding checked
     text-long h = rw (lt-ltb L.bytes (length t) h)
 
-    pub work-short : length t ≤ L.bytes → short ≡ true → ShortWork ≡ checked L F short t fine
+    pub work-short : length t ≤ L.bytes → short ≡ true → (Err ShortWork) ≡ checked L F short t fine
     unfolding checked
     work-short h e = rw (le-ltb L.bytes (length t) h, e)
 
@@ -72,7 +72,7 @@ flaw-done flaw-is.Outside i = (refl, refl)
 
 -- the checks by what each asks
 abbrev pub tests : Limits → Bool → Bool → utf8.Utf8 → List ℕ → Bool → Bool → Option ℕ → Answer → Answer
-tests L p s v t q w o x = cond p (TooLong L.bytes) (cond s ShortWork (by_utf8 v t (cond q (TooManyLines L.lines) (cond w WideLines (by_crowd o x)))))
+tests L p s v t q w o x = cond p (Err (TooLong L.bytes)) (cond s (Err ShortWork) (by_utf8 v t (cond q (Err (TooManyLines L.lines)) (cond w (Err WideLines) (by_crowd o x)))))
 
 record Passed (L : Limits) (p s : Bool) (v : utf8.Utf8) (t : List ℕ) (q w : Bool) (o : Option ℕ) : Type 0 where
   not-long : p ≡ false
@@ -80,7 +80,7 @@ record Passed (L : Limits) (p s : Bool) (v : utf8.Utf8) (t : List ℕ) (q w : Bo
   not-many : q ≡ false
   same : (x : Answer) → tests L p s v t q w o x ≡ x
 
-passed-by : (L : Limits) (p s : Bool) (v : utf8.Utf8) (t : List ℕ) (q w : Bool) (o : Option ℕ) → is_done (tests L p s v t q w o (Done 0)) ≡ true → Passed L p s v t q w o
+passed-by : (L : Limits) (p s : Bool) (v : utf8.Utf8) (t : List ℕ) (q w : Bool) (o : Option ℕ) → is_done (tests L p s v t q w o (Ok 0)) ≡ true → Passed L p s v t q w o
 unfolding is_done
 passed-by L true s v t q w o h = no h
 passed-by L false true v t q w o h = no h
@@ -90,8 +90,8 @@ passed-by L false false utf8-is.Valid t false true o h = no h
 passed-by L false false utf8-is.Valid t false false (Some n) h = no h
 passed-by L false false utf8-is.Valid t false false None h = record { not-long = refl; not_short = refl; not-many = refl; same = λ x. refl }
 
-stopped_by : (L : Limits) (p s : Bool) (v : utf8.Utf8) (t : List ℕ) (q w : Bool) (o : Option ℕ) → is_done (tests L p s v t q w o (Done 0)) ≡ false → (x : Answer) →
-    (tests L p s v t q w o x ≡ tests L p s v t q w o (Done 0)) × (passes_ran (tests L p s v t q w o (Done 0)) ≡ false)
+stopped_by : (L : Limits) (p s : Bool) (v : utf8.Utf8) (t : List ℕ) (q w : Bool) (o : Option ℕ) → is_done (tests L p s v t q w o (Ok 0)) ≡ false → (x : Answer) →
+    (tests L p s v t q w o x ≡ tests L p s v t q w o (Ok 0)) × (passes_ran (tests L p s v t q w o (Ok 0)) ≡ false)
 unfolding is_done passes_ran
 stopped_by L true s v t q w o h x = (refl, refl)
 stopped_by L false true v t q w o h x = (refl, refl)
@@ -108,7 +108,7 @@ pub record Accepted (L : Limits) (F : Form) (short : Bool) (t : List ℕ) : Type
   pub lines : length (split_lines t) ≤ L.lines
   pub same : (x : Answer) → checked L F short t x ≡ x
 
-pub accepted-by : (L : Limits) (F : Form) (short : Bool) (t : List ℕ) → is_done (checked L F short t (Done 0)) ≡ true → Accepted L F short t
+pub accepted-by : (L : Limits) (F : Form) (short : Bool) (t : List ℕ) → is_done (checked L F short t (Ok 0)) ≡ true → Accepted L F short t
 unfolding checked checked_lines
 accepted-by L F short t h =
     let p = passed-by L (ltb L.bytes (length t)) short (utf8_of t) t (ltb L.lines (length (split_lines t))) (is_wide F (length (split_lines t))) (over_from 64 91 0 (split_lines t)) h in
@@ -122,7 +122,7 @@ accepted-by L F short t h =
 pub accepted-within : {L : Limits} {F : Form} {short : Bool} {t : List ℕ} → Sane L → Accepted L F short t → Within L t
 accepted-within s p = record { sane = s; bytes = p.bytes; lines = p.lines }
 
-pub refused-by : (L : Limits) (F : Form) (short : Bool) (t : List ℕ) → is_done (checked L F short t (Done 0)) ≡ false → (x : Answer) → (checked L F short t x ≡ checked L F short t (Done 0)) × (passes_ran (checked L F short t (Done 0)) ≡ false)
+pub refused-by : (L : Limits) (F : Form) (short : Bool) (t : List ℕ) → is_done (checked L F short t (Ok 0)) ≡ false → (x : Answer) → (checked L F short t x ≡ checked L F short t (Ok 0)) × (passes_ran (checked L F short t (Ok 0)) ≡ false)
 unfolding checked checked_lines
 refused-by L F short t h x = stopped_by L (ltb L.bytes (length t)) short (utf8_of t) t (ltb L.lines (length (split_lines t))) (is_wide F (length (split_lines t))) (over_from 64 91 0 (split_lines t)) h x
 
@@ -146,7 +146,7 @@ pub roomed-runs : (n room need have : ℕ) → passes_ran (roomed n room need ha
 unfolding passes_ran
 roomed-runs n room need have = go (ltb room n) (ltb have need)
   where
-    go : (b k : Bool) → passes_ran (cond b (ShortResult n) (cond k (ShortRecords need) (Done n))) ≡ true
+    go : (b k : Bool) → passes_ran (cond b (Err (ShortResult n)) (cond k (Err (ShortRecords need)) (Ok n))) ≡ true
     go true k = refl
     go false true = refl
     go false false = refl
@@ -178,7 +178,7 @@ done-not r {n} e h = ne_eqb (number_of r) 0 (λ z. h (e ∙ z))
 
 -- ---- the mode
 
-pub mode-bad : (mode : ℕ) (x : Answer) → modes ≤ mode → BadMode ≡ in_mode mode x
+pub mode-bad : (mode : ℕ) (x : Answer) → modes ≤ mode → (Err BadMode) ≡ in_mode mode x
 mode-bad mode x h = rw (le-ltb mode modes h)
 
 pub mode-good : (mode : ℕ) {r x : Answer} → mode < modes → r ≡ x → r ≡ in_mode mode x
@@ -189,17 +189,17 @@ pub mode-done : (mode : ℕ) (x : Answer) → is_done (in_mode mode x) ≡ true 
 unfolding is_done
 mode-done mode x h = go (ltb mode modes) h
   where
-    go : (b : Bool) → is_done (cond b x BadMode) ≡ true → ((y : Answer) → cond b y BadMode ≡ y) × (is_done x ≡ true)
+    go : (b : Bool) → is_done (cond b x (Err BadMode)) ≡ true → ((y : Answer) → cond b y (Err BadMode) ≡ y) × (is_done x ≡ true)
     go true q = (λ y. refl, q)
     go false q = no q
 
-mode-stops : (b : Bool) (L : Limits) (F : Form) (short : Bool) (t : List ℕ) → is_done (cond b (checked L F short t (Done 0)) BadMode) ≡ false → (x : Answer) →
-    (cond b (checked L F short t x) BadMode ≡ cond b (checked L F short t (Done 0)) BadMode) × (passes_ran (cond b (checked L F short t (Done 0)) BadMode) ≡ false)
+mode-stops : (b : Bool) (L : Limits) (F : Form) (short : Bool) (t : List ℕ) → is_done (cond b (checked L F short t (Ok 0)) (Err BadMode)) ≡ false → (x : Answer) →
+    (cond b (checked L F short t x) (Err BadMode) ≡ cond b (checked L F short t (Ok 0)) (Err BadMode)) × (passes_ran (cond b (checked L F short t (Ok 0)) (Err BadMode)) ≡ false)
 unfolding passes_ran
 mode-stops true L F short t h x = refused-by L F short t h x
 mode-stops false L F short t h x = (refl, refl)
 
-pub answer-refused : (r : Answer) (L : Limits) (F : Form) (mode : ℕ) (short : Bool) (t xs : List ℕ) (room have : ℕ) → r ≡ in_mode mode (checked L F short t (Done 0)) → is_done r ≡ false → (r ≡ whole_answer L F mode short t xs room have) × (passes_ran r ≡ false)
+pub answer-refused : (r : Answer) (L : Limits) (F : Form) (mode : ℕ) (short : Bool) (t xs : List ℕ) (room have : ℕ) → r ≡ in_mode mode (checked L F short t (Ok 0)) → is_done r ≡ false → (r ≡ whole_answer L F mode short t xs room have) × (passes_ran r ≡ false)
 unfolding whole_answer answer_of
 answer-refused r L F mode short t xs room have e h = let p = mode-stops (ltb mode modes) L F short t (ap is_done (sym e) ∙ h) (roomed (length xs) room (records_need F t) have) in (e ∙ sym p.0, ap passes_ran e ∙ p.1)
 
@@ -208,11 +208,11 @@ unfolding whole_answer answer_of
 answer-accepted L F mode short t xs room have m p e = e ∙ sym (p.same (roomed (length xs) room (records_need F t) have)) ∙ sym (m (checked L F short t (roomed (length xs) room (records_need F t) have)))
 
 -- where a work buffer is too short, a task is refused
-pub short-refused : (L : Limits) (F : Form) (mode : ℕ) (t : List ℕ) → is_done (in_mode mode (checked L F true t (Done 0))) ≡ false
+pub short-refused : (L : Limits) (F : Form) (mode : ℕ) (t : List ℕ) → is_done (in_mode mode (checked L F true t (Ok 0))) ≡ false
 unfolding is_done checked
 short-refused L F mode t = go (ltb mode modes) (ltb L.bytes (length t))
   where
-    go : (b k : Bool) → is_done (cond b (cond k (TooLong L.bytes) ShortWork) BadMode) ≡ false
+    go : (b k : Bool) → is_done (cond b (cond k (Err (TooLong L.bytes)) (Err ShortWork)) (Err BadMode)) ≡ false
     go true true = refl
     go true false = refl
     go false k = refl
@@ -233,7 +233,7 @@ never-small n h = le-ltb 65535 n (omega arith)
 -- ---- the number of a pass
 
 module _ (L : Limits) (F : Form) (k mode : ℕ) (short : Bool) (t xs : List ℕ) (room have : ℕ) where
-  pub pass-bad : within 1 6 k ≡ false → BadPass ≡ pass_answer L F k mode short t xs room have
+  pub pass-bad : within 1 6 k ≡ false → (Err BadPass) ≡ pass_answer L F k mode short t xs room have
   unfolding pass_answer
   pass-bad h = rw h
 
@@ -241,34 +241,34 @@ module _ (L : Limits) (F : Form) (k mode : ℕ) (short : Bool) (t xs : List ℕ)
   unfolding pass_answer
   pass-good h = rw h
 
-pub bad-runs : passes_ran BadPass ≡ false
+pub bad-runs : passes_ran (Err BadPass) ≡ false
 unfolding passes_ran
 bad-runs = refl
 
-pub bad-done : is_done BadPass ≡ false
+pub bad-done : is_done (Err BadPass) ≡ false
 unfolding is_done
 bad-done = refl
 
 -- ---- the last step
 
-pub roomed-short : (n room need have : ℕ) {m : ℕ} → m ≡ n → room < m → ShortResult m ≡ roomed n room need have
+pub roomed-short : (n room need have : ℕ) {m : ℕ} → m ≡ n → room < m → Err (ShortResult m) ≡ roomed n room need have
 roomed-short n room need have e l = rw (e, lt-ltb room n (omega arith))
 
-pub roomed-records : (n room need have : ℕ) {m : ℕ} → m ≡ n → m ≤ room → have < need → ShortRecords need ≡ roomed n room need have
+pub roomed-records : (n room need have : ℕ) {m : ℕ} → m ≡ n → m ≤ room → have < need → Err (ShortRecords need) ≡ roomed n room need have
 roomed-records n room need have e l k = rw (le-ltb room n (omega arith), lt-ltb have need k)
 
-pub roomed-done : (n room need have : ℕ) {m : ℕ} → m ≡ 0 + n → n ≤ room → need ≤ have → Done m ≡ roomed n room need have
+pub roomed-done : (n room need have : ℕ) {m : ℕ} → m ≡ 0 + n → n ≤ room → need ≤ have → Ok m ≡ roomed n room need have
 roomed-done n room need have {m} e l k = let q : m ≡ n = omega arith in rw (q, le-ltb room n l, le-ltb have need k)
 
-pub out-short : (n : ℕ) (xs d : List ℕ) → d ≡ out_after (ShortResult n) xs d
+pub out-short : (n : ℕ) (xs d : List ℕ) → d ≡ out_after (Err (ShortResult n)) xs d
 unfolding out_after is_done
 out-short n xs d = refl
 
-pub out-unrecorded : (n : ℕ) (xs d : List ℕ) → d ≡ out_after (ShortRecords n) xs d
+pub out-unrecorded : (n : ℕ) (xs d : List ℕ) → d ≡ out_after (Err (ShortRecords n)) xs d
 unfolding out_after is_done
 out-unrecorded n xs d = refl
 
-pub out-done : {d xs d' : List ℕ} {r : ℕ} → Wrote d 0 xs d' r → d' ≡ out_after (Done r) xs d
+pub out-done : {d xs d' : List ℕ} {r : ℕ} → Wrote d 0 xs d' r → d' ≡ out_after (Ok r) xs d
 unfolding out_after is_done put_at
 out-done {d} {xs} w = w.holds ∙ ap (λ (n : ℕ). take 0 d ++ xs ++ drop n d) (zero-add (length xs))
 

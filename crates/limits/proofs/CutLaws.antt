@@ -11,15 +11,16 @@ use Rattle.flaws.specs.declared.Flaw as flaw
 use Rattle.flaws.specs.Flaws.{is_cut}
 use Rattle.flaws.proofs.Cutting as cutting
 use Rattle.limits.specs.declared.Limits.{Limits}
-use Rattle.limits.specs.declared.Answer.{Answer}
-use Rattle.limits.specs.declared.Answer.TheVariants.{Cut}
+use Rattle.limits.specs.Answer.{Answer}
+use Rattle.limits.specs.declared.Refusal.TheVariants.{Cut}
+use Rattle.std.specs.declared.result.Result.TheVariants.{Ok, Err}
 use Rattle.limits.specs.Entry.{by_flaw, checked_lines, checked}
 use Rattle.limits.proofs.AnswerLaws.{text-read}
 
 -- a text s passes the check of its bytes, or is refused with 9 where a character begins that it ends in
 pub data CutAnswer (L : Limits) (F : Form) (s : List ℕ) (fine : Answer) : Type 0 where
   passes : checked L F false s fine ≡ checked_lines L F s fine → CutAnswer L F s fine
-  stops : (i : ℕ) → checked L F false s fine ≡ Cut i → utf8_of s ≡ utf8-is.Bad i → is_cut (drop i s) ≡ true → CutAnswer L F s fine
+  stops : (i : ℕ) → checked L F false s fine ≡ Err (Cut i) → utf8_of s ≡ utf8-is.Bad i → is_cut (drop i s) ≡ true → CutAnswer L F s fine
 
 -- a well-formed text t cut after n bytes, where its bytes are not too many and no work buffer is too short
 pub cut-answer : (L : Limits) (F : Form) (t : List ℕ) (n : ℕ) (fine : Answer) → utf8_of t ≡ utf8-is.Valid → length (take n t) ≤ L.bytes → CutAnswer L F (take n t) fine

@@ -20,9 +20,9 @@ use Rattle.flaws.specs.declared.Flaw as flaw
 use Rattle.flaws.specs.declared.Flaw.TheVariants as flaw-is
 use Rattle.flaws.specs.Flaws.{flaw_of}
 use Rattle.limits.specs.declared.Limits.{Limits}
-use Rattle.limits.specs.declared.Answer.{Answer}
-use Rattle.limits.specs.declared.Answer.TheVariants.{Done, BadPass, ShortResult, BadMode, ShortRecords, WideLines}
-use Rattle.limits.specs.Answer.{number_of}
+use Rattle.limits.specs.declared.Refusal.TheVariants.{BadPass, ShortResult, BadMode, ShortRecords, WideLines}
+use Rattle.std.specs.declared.result.Result.TheVariants.{Ok, Err}
+use Rattle.limits.specs.Answer.{Answer, number_of}
 use Rattle.limits.specs.Entry.{small, is_wide, by_flaw, checked_lines, checked, records_need, roomed, answer_of, modes, whole_answer, pass_answer}
 use Rattle.limits.proofs.AnswerLaws.{tests, never-om, never-small, mode-good, text-read, lines-wide}
 
@@ -43,7 +43,7 @@ room-narrow : (n room need have : ℕ) → is_refusal (roomed n room need have) 
 unfolding number_of
 room-narrow n room need have = go (ltb room n) (ltb have need)
   where
-    go : (b k : Bool) → is_refusal (cond b (ShortResult n) (cond k (ShortRecords need) (Done n))) ≡ false
+    go : (b k : Bool) → is_refusal (cond b (Err (ShortResult n)) (cond k (Err (ShortRecords need)) (Ok n))) ≡ false
     go true k = refl
     go false true = refl
     go false false = refl
@@ -72,7 +72,7 @@ module _ (L : Limits) (F : Form) (k mode : ℕ) (short : Bool) (t xs : List ℕ)
           tests-narrow L (ltb L.bytes (length t)) short (utf8_of t) t (ltb L.lines (length (split_lines t))) (is_wide F (length (split_lines t))) (over_from 64 91 0 (split_lines t)) (roomed (length xs) room (records_need F t) have)
           (λ q. h (ltb-false L.lines (length (split_lines t)) q)) (room-narrow (length xs) room (records_need F t) have)
 
-      go : (b c : Bool) → is_refusal (cond b (cond c answer BadMode) BadPass) ≡ false
+      go : (b c : Bool) → is_refusal (cond b (cond c answer (Err BadMode)) (Err BadPass)) ≡ false
       go true true = narrow-answer
       go true false = refl
       go false c = refl
@@ -97,7 +97,7 @@ never-wide-whole-om L mode short t xs room have = never-wide-om L 1 mode short t
 
 -- a text in UTF-8 and within limits with more than 65,535 lines, where `OL` is asked for: whatever its brackets are, and whatever becomes of it
 pub wide-refused : (L : Limits) (mode : ℕ) (t xs : List ℕ) (room have : ℕ) → mode < modes → length t ≤ L.bytes → utf8_of t ≡ utf8-is.Valid → length (split_lines t) ≤ L.lines → 65535 < length (split_lines t) →
-    whole_answer L form.Ol mode false t xs room have ≡ WideLines
+    whole_answer L form.Ol mode false t xs room have ≡ (Err WideLines)
 unfolding whole_answer answer_of
 wide-refused L mode t xs room have m b u l w =
     let fine : Answer = roomed (length xs) room (records_need form.Ol t) have in

@@ -15,9 +15,9 @@ use Rattle.flaws.specs.declared.Flaw as flaw
 use Rattle.flaws.specs.declared.Flaw.TheVariants as flaw-is
 use Rattle.flaws.specs.Flaws.{flaw_of}
 use Rattle.limits.specs.declared.Limits.{Limits}
-use Rattle.limits.specs.declared.Answer.{Answer}
-use Rattle.limits.specs.declared.Answer.TheVariants.{Done, BadPass, TooLong, ShortWork, NotUtf8, TooManyLines, Crowded, ShortResult, Cut, Overlong, Outside, BadMode, ShortRecords, WideLines}
-use Rattle.limits.specs.Answer.{passes_ran, is_done}
+use Rattle.limits.specs.declared.Refusal.TheVariants.{BadPass, TooLong, ShortWork, NotUtf8, TooManyLines, Crowded, ShortResult, Cut, Overlong, Outside, BadMode, ShortRecords, WideLines}
+use Rattle.std.specs.declared.result.Result.TheVariants.{Ok, Err}
+use Rattle.limits.specs.Answer.{Answer, passes_ran, is_done}
 
 -- the most bytes and the most lines of a text that `optimize` and `run_pass` take
 abbrev pub small : Limits
@@ -67,10 +67,10 @@ tables_short L f g h v w x p q r t own table =
 
 -- what is wrong where the first bad sequence begins, at the place i
 abbrev pub by_flaw : flaw.Flaw → ℕ → Answer
-by_flaw flaw-is.Other i = NotUtf8 i
-by_flaw flaw-is.Cut i = Cut i
-by_flaw flaw-is.Overlong i = Overlong i
-by_flaw flaw-is.Outside i = Outside i
+by_flaw flaw-is.Other i = Err (NotUtf8 i)
+by_flaw flaw-is.Cut i = Err (Cut i)
+by_flaw flaw-is.Overlong i = Err (Overlong i)
+by_flaw flaw-is.Outside i = Err (Outside i)
 
 abbrev pub by_utf8 : utf8.Utf8 → List ℕ → Answer → Answer
 by_utf8 utf8-is.Valid t fine = fine
@@ -78,7 +78,7 @@ by_utf8 (utf8-is.Bad i) t fine = by_flaw (flaw_of (drop i t)) i
 
 abbrev pub by_crowd : Option ℕ → Answer → Answer
 by_crowd None fine = fine
-by_crowd (Some n) fine = Crowded n
+by_crowd (Some n) fine = Err (Crowded n)
 
 -- a form of records has no numbers for so many lines: `OL` has those of 2 bytes, and 65,535 stands for gone; no text has too many for `OM`
 abbrev pub is_wide : Form → ℕ → Bool
@@ -88,15 +88,15 @@ is_wide form.Om n = false
 -- by its lines
 unfoldable pub checked_lines : Limits → Form → List ℕ → Answer → Answer
 checked_lines L F t fine =
-    cond (ltb L.lines (length (split_lines t))) (TooManyLines L.lines)
-    (cond (is_wide F (length (split_lines t))) WideLines
+    cond (ltb L.lines (length (split_lines t))) (Err (TooManyLines L.lines))
+    (cond (is_wide F (length (split_lines t))) (Err WideLines)
     (by_crowd (over_from 64 (code "[") 0 (split_lines t)) fine))
 
 unfoldable pub checked : Limits → Form → Bool → List ℕ → Answer → Answer
 unfolding checked_lines
 checked L F short t fine =
-    cond (ltb L.bytes (length t)) (TooLong L.bytes)
-    (cond short ShortWork
+    cond (ltb L.bytes (length t)) (Err (TooLong L.bytes))
+    (cond short (Err ShortWork)
     (by_utf8 (utf8_of t) t (checked_lines L F t fine)))
 
 -- how many bytes the records of a text take in a form: those of a record for each line
@@ -105,7 +105,7 @@ records_need F t = size_of (form_shape F) * length (split_lines t)
 
 -- the result is n bytes long, and the result buffer `room`; the records take `need` bytes, and their buffer has `have`
 abbrev pub roomed : ℕ → ℕ → ℕ → ℕ → Answer
-roomed n room need have = cond (ltb room n) (ShortResult n) (cond (ltb have need) (ShortRecords need) (Done n))
+roomed n room need have = cond (ltb room n) (Err (ShortResult n)) (cond (ltb have need) (Err (ShortRecords need)) (Ok n))
 
 -- F: the form of the records; `short`: whether a work buffer is too short; t: the text; result: what it becomes; room, have: the lengths of the result buffer
 -- and of that for records
@@ -115,7 +115,7 @@ answer_of L F short t result room have = checked L F short t (roomed (length res
 
 -- by its mode: what follows where there is such a one
 abbrev pub in_mode : ℕ → Answer → Answer
-in_mode mode follows = cond (ltb mode modes) follows BadMode
+in_mode mode follows = cond (ltb mode modes) follows (Err BadMode)
 
 -- of the entry for all passes
 unfoldable pub whole_answer : Limits → Form → ℕ → Bool → List ℕ → List ℕ → ℕ → ℕ → Answer
@@ -125,7 +125,7 @@ whole_answer L F mode short t result room have = in_mode mode (answer_of L F sho
 -- and of the one for one pass
 unfoldable pub pass_answer : Limits → Form → ℕ → ℕ → Bool → List ℕ → List ℕ → ℕ → ℕ → Answer
 unfolding whole_answer
-pass_answer L F k mode short t result room have = cond (within 1 6 k) (whole_answer L F mode short t result room have) BadPass
+pass_answer L F k mode short t result room have = cond (within 1 6 k) (whole_answer L F mode short t result room have) (Err BadPass)
 
 -- ---- memory
 

@@ -4,7 +4,7 @@
 ghost use Rattle.std.specs.Prelude.{◌≡◌, length};
 ghost use Rattle.lines.specs.Lf.{lines_of};
 ghost use Rattle.lines.specs.Steps.{joined};
-ghost use Rattle.limits.specs.declared.Answer.TheVariants.{Done};
+ghost use Rattle.std.specs.declared.result.Result.TheVariants.{Ok, Err};
 ghost use Rattle.limits.specs.Answer.{number_of, length_of, place_of};
 ghost use Rattle.limits.specs.Entry.{small, large, byte_size, is_short, tables_short, is_wide, by_flaw, checked_lines, checked, in_mode, roomed, out_after};
 ghost use Rattle.limits.specs.Inner.Sane.{Sane};
@@ -80,10 +80,9 @@ pub fn byte_size(m: Limits) -> usize
 // The form `OL` has numbers for so many lines: the one after the last of them stands for gone.
 pub const OL_LINES: usize = 65535;
 
-// What an entry answers: the length of the result, or why there is none.
+// Why there is no result.
 #[derive(Clone, Copy)]
-pub enum Answer {
-    Done(usize),
+pub enum Refusal {
     BadPass,
     TooLong(usize),
     ShortWork,
@@ -99,69 +98,81 @@ pub enum Answer {
     WideLines,
 }
 
+// What an entry answers: the length of the result, or why there is none.
+pub type Answer = Result<usize, Refusal>;
+
+// The number of the check that refused.
+#[tactic(auto, unfolding(crate::specs::Answer::number_of))]
+fn check_of(e: Refusal) -> u8
+    ensures { result ≡ number_of (Err e) }
+{
+    match e {
+        Refusal::BadPass => 1,
+        Refusal::TooLong(n) => 2,
+        Refusal::ShortWork => 3,
+        Refusal::NotUtf8(i) => 4,
+        Refusal::TooManyLines(n) => 5,
+        Refusal::Crowded(n) => 6,
+        Refusal::ShortResult(n) => 7,
+        Refusal::Cut(i) => 9,
+        Refusal::Overlong(i) => 10,
+        Refusal::Outside(i) => 11,
+        Refusal::BadMode => 12,
+        Refusal::ShortRecords(n) => 8,
+        Refusal::WideLines => 13,
+    }
+}
+
 // The number of an answer: 0, or that of the check that refused.
+#[tactic(auto, unfolding(crate::specs::Answer::number_of))]
 pub fn number_of(r: Answer) -> u8
     ensures { result ≡ number_of r }
 {
     match r {
-        Answer::Done(n) => 0,
-        Answer::BadPass => 1,
-        Answer::TooLong(n) => 2,
-        Answer::ShortWork => 3,
-        Answer::NotUtf8(i) => 4,
-        Answer::TooManyLines(n) => 5,
-        Answer::Crowded(n) => 6,
-        Answer::ShortResult(n) => 7,
-        Answer::Cut(i) => 9,
-        Answer::Overlong(i) => 10,
-        Answer::Outside(i) => 11,
-        Answer::BadMode => 12,
-        Answer::ShortRecords(n) => 8,
-        Answer::WideLines => 13,
+        Ok(_) => 0,
+        Err(e) => check_of(e),
     }
 }
 
 // The length of the result, 0 where there is none.
+#[tactic(auto, unfolding(crate::specs::Answer::length_of))]
 pub fn length_of(r: Answer) -> usize
     ensures { result ≡ length_of r }
 {
     match r {
-        Answer::Done(n) => n,
-        Answer::BadPass => 0,
-        Answer::TooLong(n) => 0,
-        Answer::ShortWork => 0,
-        Answer::NotUtf8(i) => 0,
-        Answer::TooManyLines(n) => 0,
-        Answer::Crowded(n) => 0,
-        Answer::ShortResult(n) => 0,
-        Answer::Cut(i) => 0,
-        Answer::Overlong(i) => 0,
-        Answer::Outside(i) => 0,
-        Answer::BadMode => 0,
-        Answer::ShortRecords(n) => 0,
-        Answer::WideLines => 0,
+        Ok(n) => n,
+        Err(_) => 0,
+    }
+}
+
+// Where a check refused: 0 where it names no place.
+#[tactic(auto, unfolding(crate::specs::Answer::place_of))]
+fn refused_at(e: Refusal) -> usize
+    ensures { result ≡ place_of (Err e) }
+{
+    match e {
+        Refusal::BadPass | Refusal::ShortWork | Refusal::BadMode => 0,
+        Refusal::TooLong(n)
+        | Refusal::NotUtf8(n)
+        | Refusal::TooManyLines(n)
+        | Refusal::Crowded(n)
+        | Refusal::ShortResult(n)
+        | Refusal::Cut(n)
+        | Refusal::Overlong(n)
+        | Refusal::Outside(n)
+        | Refusal::ShortRecords(n) => n,
+        Refusal::WideLines => OL_LINES,
     }
 }
 
 // The place of a refusal.
+#[tactic(auto, unfolding(crate::specs::Answer::place_of))]
 pub fn place_of(r: Answer) -> usize
     ensures { result ≡ place_of r }
 {
     match r {
-        Answer::Done(n) => 0,
-        Answer::BadPass => 0,
-        Answer::TooLong(n) => n,
-        Answer::ShortWork => 0,
-        Answer::NotUtf8(i) => i,
-        Answer::TooManyLines(n) => n,
-        Answer::Crowded(n) => n,
-        Answer::ShortResult(n) => n,
-        Answer::Cut(i) => i,
-        Answer::Overlong(i) => i,
-        Answer::Outside(i) => i,
-        Answer::BadMode => 0,
-        Answer::ShortRecords(n) => n,
-        Answer::WideLines => OL_LINES,
+        Ok(_) => 0,
+        Err(e) => refused_at(e),
     }
 }
 
@@ -230,20 +241,20 @@ fn is_wide(form: origins::Form, n: usize) -> bool
     }
 }
 
-// Why a text is refused by its lines, where its records are asked for in a form, or `Done` where it is not.
+// Why a text is refused by its lines, where its records are asked for in a form, or `Ok` where it is not.
 fn refused_lines(m: Limits, form: origins::Form, text: &[u8]) -> Answer
-    ensures { result ≡ checked_lines m form text.now (Done 0) }
+    ensures { result ≡ checked_lines m form text.now (Ok 0) }
 {
     let n = lines::count_lines(text);
     if n > m.lines {
-        return Answer::TooManyLines(m.lines);
+        return Err(Refusal::TooManyLines(m.lines));
     }
     if is_wide(form, n) {
-        return Answer::WideLines;
+        return Err(Refusal::WideLines);
     }
     match lines::crowded_line(text, 64) {
-        Some(n) => Answer::Crowded(n),
-        None => Answer::Done(0),
+        Some(n) => Err(Refusal::Crowded(n)),
+        None => Ok(0),
     }
 }
 
@@ -252,22 +263,22 @@ fn by_flaw(f: flaws::Flaw, i: usize) -> Answer
     ensures { result ≡ by_flaw f i }
 {
     match f {
-        flaws::Flaw::Other => Answer::NotUtf8(i),
-        flaws::Flaw::Cut => Answer::Cut(i),
-        flaws::Flaw::Overlong => Answer::Overlong(i),
-        flaws::Flaw::Outside => Answer::Outside(i),
+        flaws::Flaw::Other => Err(Refusal::NotUtf8(i)),
+        flaws::Flaw::Cut => Err(Refusal::Cut(i)),
+        flaws::Flaw::Overlong => Err(Refusal::Overlong(i)),
+        flaws::Flaw::Outside => Err(Refusal::Outside(i)),
     }
 }
 
-// Why a text is refused, or `Done` where it is not. The checks stand in their order.
+// Why a text is refused, or `Ok` where it is not. The checks stand in their order.
 pub fn refused(m: Limits, form: origins::Form, text: &[u8], short: bool) -> Answer
-    ensures { result ≡ checked m form short text.now (Done 0) }
+    ensures { result ≡ checked m form short text.now (Ok 0) }
 {
     if text.len() > m.bytes {
-        return Answer::TooLong(m.bytes);
+        return Err(Refusal::TooLong(m.bytes));
     }
     if short {
-        return Answer::ShortWork;
+        return Err(Refusal::ShortWork);
     }
     match text::check_utf8(text) {
         text::Utf8::Bad(i) => by_flaw(flaws::flaw_at(text, i), i),
@@ -275,12 +286,12 @@ pub fn refused(m: Limits, form: origins::Form, text: &[u8], short: bool) -> Answ
     }
 }
 
-// Why a task is refused over a text, or `Done` where it is not: its mode is looked at first.
+// Why a task is refused over a text, or `Ok` where it is not: its mode is looked at first.
 pub fn refused_task(m: Task, text: &[u8], short: bool) -> Answer
-    ensures { result ≡ in_mode m.mode.0 (checked m.limits m.form short text.now (Done 0)) }
+    ensures { result ≡ in_mode m.mode.0 (checked m.limits m.form short text.now (Ok 0)) }
 {
     if m.mode.0 >= MODES {
-        return Answer::BadMode;
+        return Err(Refusal::BadMode);
     }
     let form = m.form;
     refused(m.limits, form, text, short)
@@ -293,11 +304,11 @@ pub fn finish(lf: &[u8], ended: bool, need: usize, have: usize, out: &mut [u8]) 
 {
     let n = lines::joined_len(lf, ended);
     if out.len() < n {
-        return Answer::ShortResult(n);
+        return Err(Refusal::ShortResult(n));
     }
     if have < need {
-        return Answer::ShortRecords(need);
+        return Err(Refusal::ShortRecords(need));
     }
     let m = lines::join_lines(lf, ended, out);
-    Answer::Done(m)
+    Ok(m)
 }

@@ -26,9 +26,8 @@ use Rattle.calls.specs.Calls.{rebuild_calls}
 use Rattle.decls.specs.Decls.{prune_decls}
 use Rattle.limits.specs.declared.Limits.{Limits}
 use Rattle.limits.specs.declared.Task.{Task}
-use Rattle.limits.specs.declared.Answer.{Answer}
-use Rattle.limits.specs.declared.Answer.TheVariants.{Done}
-use Rattle.limits.specs.Answer.{is_done, passes_ran}
+use Rattle.std.specs.declared.result.Result.TheVariants.{Ok, Err}
+use Rattle.limits.specs.Answer.{Answer, is_done, passes_ran}
 use Rattle.limits.proofs.AnswerLaws.{work-kept, work-wiped, roomed-runs, answer-refused, short-refused}
 use Rattle.steps.specs.Step.{step_of, step_fates}
 use Rattle.steps.proofs.Goings.{step-goes}
@@ -275,7 +274,7 @@ or-neither true h = refl
 or-neither false h = h
 
 -- a text is refused, whatever the other buffers are
-pub short-answer : (r : Answer) (L : Limits) (F : Form) (mode : ℕ) (b : Bool) {k : Bool} (t xs : List ℕ) (room have : ℕ) → k ≡ true → r ≡ in_mode mode (checked L F true t (Done 0)) →
+pub short-answer : (r : Answer) (L : Limits) (F : Form) (mode : ℕ) (b : Bool) {k : Bool} (t xs : List ℕ) (room have : ℕ) → k ≡ true → r ≡ in_mode mode (checked L F true t (Ok 0)) →
     (r ≡ whole_answer L F mode (b || k) t xs room have) × ((is_done r ≡ false) × (passes_ran r ≡ false))
 short-answer r L F mode b t xs room have h e =
     let d : is_done r ≡ false = ap is_done e ∙ short-refused L F mode t in

@@ -31,9 +31,9 @@ use Rattle.reading.proofs.Lined.{Lined}
 use Rattle.origins.specs.declared.Form.{Form}
 use Rattle.origins.specs.declared.Form.TheVariants as form
 use Rattle.limits.specs.declared.Limits.{Limits}
-use Rattle.limits.specs.declared.Answer.{Answer}
-use Rattle.limits.specs.declared.Answer.TheVariants.{Done, BadPass, BadMode, TooLong, ShortWork, TooManyLines, ShortResult, ShortRecords, WideLines}
-use Rattle.limits.specs.Answer.{number_of, is_done}
+use Rattle.limits.specs.declared.Refusal.TheVariants.{BadPass, BadMode, TooLong, ShortWork, TooManyLines, ShortResult, ShortRecords, WideLines}
+use Rattle.std.specs.declared.result.Result.TheVariants.{Ok, Err}
+use Rattle.limits.specs.Answer.{Answer, number_of, is_done}
 use Rattle.steps.specs.Step.{step_of}
 use Rattle.passes.specs.Passes.{result_of}
 use Rattle.passes.specs.Inner.Passes.{steps_of}
@@ -54,12 +54,12 @@ result-composed R t = refl
 
 -- where there is such a mode, no check refuses a text, and the result buffer d and the one for records are long enough, the answer is the result's length, and the result stands at the front of d
 pub optimize-whole : (L : Limits) (F : Form) (mode : ℕ) (short : Bool) (t d : List ℕ) → mode < modes → Accepted L F short t → length (result_of (whole (reading_of mode)) t) ≤ length d → (have : ℕ) → records_need F t ≤ have →
-    (whole_answer L F mode short t (result_of (whole (reading_of mode)) t) (length d) have ≡ Done (length (result_of (whole (reading_of mode)) t)))
-    × (out_after (Done (length (result_of (whole (reading_of mode)) t))) (result_of (whole (reading_of mode)) t) d ≡ result_of (whole (reading_of mode)) t ++ drop (length (result_of (whole (reading_of mode)) t)) d)
+    (whole_answer L F mode short t (result_of (whole (reading_of mode)) t) (length d) have ≡ Ok (length (result_of (whole (reading_of mode)) t)))
+    × (out_after (Ok (length (result_of (whole (reading_of mode)) t))) (result_of (whole (reading_of mode)) t) d ≡ result_of (whole (reading_of mode)) t ++ drop (length (result_of (whole (reading_of mode)) t)) d)
 unfolding out_after is_done number_of
 optimize-whole L F mode short t d m p h have k =
     let n : ℕ = length (result_of (whole (reading_of mode)) t) in
-    let q : Done n ≡ roomed n (length d) (records_need F t) have = rw (le-ltb (length d) n h, le-ltb have (records_need F t) k) in
+    let q : Ok n ≡ roomed n (length d) (records_need F t) have = rw (le-ltb (length d) n h, le-ltb have (records_need F t) k) in
     (sym (answer-accepted L F mode short t (result_of (whole (reading_of mode)) t) (length d) have (λ y. sym (mode-good mode m refl)) p q), refl)
 
 -- ---- no result is longer than twice its text
@@ -128,31 +128,31 @@ pass-twice {R} c k t = result-twice (step_of R k) t (tame-step c k)
 -- ---- the edges: one more is refused, the last that fits goes on to the next check
 
 module _ (L : Limits) (F : Form) (short : Bool) (t xs : List ℕ) (room have : ℕ) where
-  pub bytes-over : length t ≡ suc L.bytes → answer_of L F short t xs room have ≡ TooLong L.bytes
+  pub bytes-over : length t ≡ suc L.bytes → answer_of L F short t xs room have ≡ Err (TooLong L.bytes)
   unfolding answer_of
   bytes-over e = sym (text-long L F t (roomed (length xs) room (records_need F t) have) short (omega arith))
 
-  pub bytes-edge : length t ≡ L.bytes → answer_of L F short t xs room have ≡ cond short ShortWork (by_utf8 (utf8_of t) t (checked_lines L F t (roomed (length xs) room (records_need F t) have)))
+  pub bytes-edge : length t ≡ L.bytes → answer_of L F short t xs room have ≡ cond short (Err ShortWork) (by_utf8 (utf8_of t) t (checked_lines L F t (roomed (length xs) room (records_need F t) have)))
   unfolding answer_of checked
   bytes-edge e = rw (le-ltb L.bytes (length t) (omega arith))
 
 -- the mode is looked at first of all by the entry for all passes, and just after the pass by the one for a pass
 module _ (L : Limits) (F : Form) (mode : ℕ) (short : Bool) (t xs : List ℕ) (room have : ℕ) (h : modes ≤ mode) where
-  pub mode-first : whole_answer L F mode short t xs room have ≡ BadMode
+  pub mode-first : whole_answer L F mode short t xs room have ≡ (Err BadMode)
   unfolding whole_answer
   mode-first = sym (mode-bad mode (answer_of L F short t xs room have) h)
 
-  pub mode-second : (k : ℕ) → within 1 6 k ≡ true → pass_answer L F k mode short t xs room have ≡ BadMode
+  pub mode-second : (k : ℕ) → within 1 6 k ≡ true → pass_answer L F k mode short t xs room have ≡ (Err BadMode)
   mode-second k p = sym (pass-good L F k mode short t xs room have p) ∙ mode-first
 
-pub pass-first : (L : Limits) (F : Form) (k mode : ℕ) (short : Bool) (t xs : List ℕ) (room have : ℕ) → within 1 6 k ≡ false → pass_answer L F k mode short t xs room have ≡ BadPass
+pub pass-first : (L : Limits) (F : Form) (k mode : ℕ) (short : Bool) (t xs : List ℕ) (room have : ℕ) → within 1 6 k ≡ false → pass_answer L F k mode short t xs room have ≡ (Err BadPass)
 pass-first L F k mode short t xs room have h = sym (pass-bad L F k mode short t xs room have h)
 
 module _ (L : Limits) (F : Form) (t : List ℕ) (x : Answer) where
-  pub lines-over : length (split_lines t) ≡ suc L.lines → checked_lines L F t x ≡ TooManyLines L.lines
+  pub lines-over : length (split_lines t) ≡ suc L.lines → checked_lines L F t x ≡ Err (TooManyLines L.lines)
   lines-over e = sym (lines-many L F t x (omega arith))
 
-  pub lines-edge : length (split_lines t) ≡ L.lines → checked_lines L F t x ≡ cond (is_wide F L.lines) WideLines (by_crowd (over_from 64 91 0 (split_lines t)) x)
+  pub lines-edge : length (split_lines t) ≡ L.lines → checked_lines L F t x ≡ cond (is_wide F L.lines) (Err WideLines) (by_crowd (over_from 64 91 0 (split_lines t)) x)
   unfolding checked_lines
   lines-edge e = rw (le-ltb L.lines (length (split_lines t)) (omega arith), e)
 
@@ -170,11 +170,11 @@ unfolding over_from count_of
 brackets-over = refl
 
 -- buffers of exactly the lengths pass; of both too short, the result's is named
-pub room-edge : (n need : ℕ) → roomed n n need need ≡ Done n
+pub room-edge : (n need : ℕ) → roomed n n need need ≡ Ok n
 room-edge n need = rw (le-ltb n n (omega arith), le-ltb need need (omega arith))
 
-pub room-over : (n need have : ℕ) → roomed (suc n) n need have ≡ ShortResult (suc n)
+pub room-over : (n need have : ℕ) → roomed (suc n) n need have ≡ Err (ShortResult (suc n))
 room-over n need have = rw (lt-ltb n (suc n) (omega arith))
 
-pub records-over : (n have : ℕ) → roomed n n (suc have) have ≡ ShortRecords (suc have)
+pub records-over : (n have : ℕ) → roomed n n (suc have) have ≡ Err (ShortRecords (suc have))
 records-over n have = rw (le-ltb n n (omega arith), lt-ltb have (suc have) (omega arith))

@@ -1,7 +1,7 @@
 -- The work buffers of an entry: how long they are, and what they hold afterwards. Assumes nothing.
 use Rattle.std.specs.Prelude.{ℕ, ◌≡◌, List}
 use Rattle.limits.specs.declared.Limits.{Limits}
-use Rattle.limits.specs.declared.Answer.{Answer}
+use Rattle.limits.specs.Answer.{Answer}
 use Rattle.limits.specs.Entry.{byte_size, block_size, line_size, note_size, owners, places, work_after}
 
 -- the work buffers after an answer

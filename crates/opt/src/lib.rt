@@ -266,7 +266,7 @@ pub fn run_pass(
     ensures records { orig.new ≡ out_after result (origins_of form-is.Ol (step_of (reading_of mode) pass) (step_fates (reading_of mode) pass) text.now) orig.old }
 {
     if !is_pass(pass) {
-        return limits::Answer::BadPass;
+        return Err(limits::Refusal::BadPass);
     }
     tidy_small(pass, pass + 1, mode, text, a, b, c, d, e, u, out, orig)
 }
@@ -572,7 +572,7 @@ pub fn run_pass_large(
     ensures records { orig.new ≡ out_after result (origins_of form (step_of (reading_of mode) pass) (step_fates (reading_of mode) pass) text.now) orig.old }
 {
     if !is_pass(pass) {
-        return limits::Answer::BadPass;
+        return Err(limits::Refusal::BadPass);
     }
     tidy_large(
         pass,

@@ -24,9 +24,9 @@ use Rattle.origins.specs.Inner.Written.{left_over, wents_by}
 use Rattle.origins.proofs.RoundTrip.{file-length}
 use Rattle.origins.proofs.InStep.{in_step}
 use Rattle.limits.specs.declared.Limits.{Limits}
-use Rattle.limits.specs.declared.Answer.{Answer}
-use Rattle.limits.specs.declared.Answer.TheVariants.{Done, ShortResult, ShortRecords}
-use Rattle.limits.specs.Answer.{number_of, is_done}
+use Rattle.limits.specs.declared.Refusal.TheVariants.{ShortResult, ShortRecords}
+use Rattle.std.specs.declared.result.Result.TheVariants.{Ok, Err}
+use Rattle.limits.specs.Answer.{Answer, number_of, is_done}
 use Rattle.limits.specs.Entry.{records_need, roomed, out_after, blank}
 use Rattle.limits.specs.Inner.Sane.{Within}
 use Rattle.limits.proofs.AnswerLaws.{out-done}
@@ -101,7 +101,7 @@ records-fit F y n room k have out ls cs e z q =
     need : ℕ
     need = size_of (form_shape F) * k
 
-    enough : (b d : Bool) → ltb have need ≡ d → number_of (cond b (ShortResult n) (cond d (ShortRecords need) (Done n))) ≡ 0 → need ≤ have
+    enough : (b d : Bool) → ltb have need ≡ d → number_of (cond b (Err (ShortResult n)) (cond d (Err (ShortRecords need)) (Ok n))) ≡ 0 → need ≤ have
     enough true d p w = absurd (omega (arith, w))
     enough false true p w = absurd (omega (arith, w))
     enough false false p w = ltb-false have need p

@@ -1,9 +1,9 @@
 use Rattle.lexical.specs.Joined.{shut_in}
 use Rattle.lexical.proofs.shuts.Goals as goal
 
-pub returns-in-None : goal.returns-in-None
+pub returns-in-Nothing : goal.returns-in-Nothing
 unfolding shut_in
-returns-in-None c = rw c.in-None.is
+returns-in-Nothing c = rw c.in-Nothing.is
 
 pub returns-in-Comment : goal.returns-in-Comment
 unfolding shut_in

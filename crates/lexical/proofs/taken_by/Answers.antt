@@ -2,9 +2,9 @@ use native.Mathlib.Omega.{arith}
 use Rattle.lexical.specs.Joined.{taken}
 use Rattle.lexical.proofs.taken_by.Goals as goal
 
-pub returns-in-None : goal.returns-in-None
+pub returns-in-Nothing : goal.returns-in-Nothing
 unfolding taken
-returns-in-None c = rw c.in-None.is
+returns-in-Nothing c = rw c.in-Nothing.is
 
 pub returns-in-Comment : goal.returns-in-Comment
 unfolding taken

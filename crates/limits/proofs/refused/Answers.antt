@@ -1,16 +1,16 @@
 use mathlib.Core.Path.{sym, ◌∙◌}
-use Rattle.limits.specs.declared.Answer.TheVariants.{Done}
+use Rattle.std.specs.declared.result.Result.TheVariants.{Ok, Err}
 use Rattle.limits.proofs.AnswerLaws.{text-long, work-short, text-read, text-bad}
 use Rattle.limits.proofs.refused.Goals as goal
 
 pub returns-then-text-m : goal.returns-then-text-m
-returns-then-text-m c = text-long c.args.m c.args.form c.args.text.now (Done 0) _ c.if-text-m.true
+returns-then-text-m c = text-long c.args.m c.args.form c.args.text.now (Ok 0) _ c.if-text-m.true
 
 pub returns-then-short : goal.returns-then-short
-returns-then-short c = work-short c.args.m c.args.form c.args.text.now (Done 0) _ c.if-text-m.false c.if-short.true
+returns-then-short c = work-short c.args.m c.args.form c.args.text.now (Ok 0) _ c.if-text-m.false c.if-short.true
 
 pub returns-in-Bad : goal.returns-in-Bad
-returns-in-Bad c = text-bad c.args.m c.args.form c.args.text.now (Done 0) _ c.if-text-m.false c.if-short.false c.by_flaw.ensures c.flaw_at.ensures (sym c.check_utf8.ensures ∙ c.in-Bad.is)
+returns-in-Bad c = text-bad c.args.m c.args.form c.args.text.now (Ok 0) _ c.if-text-m.false c.if-short.false c.by_flaw.ensures c.flaw_at.ensures (sym c.check_utf8.ensures ∙ c.in-Bad.is)
 
 pub returns-in-Valid : goal.returns-in-Valid
-returns-in-Valid c = c.refused_lines.ensures ∙ text-read c.args.m c.args.form c.args.text.now (Done 0) _ c.if-text-m.false c.if-short.false (sym c.check_utf8.ensures ∙ c.in-Valid.is)
+returns-in-Valid c = c.refused_lines.ensures ∙ text-read c.args.m c.args.form c.args.text.now (Ok 0) _ c.if-text-m.false c.if-short.false (sym c.check_utf8.ensures ∙ c.in-Valid.is)

@@ -6,7 +6,8 @@ use lib.ListN.{length}
 use Rattle.lines.proofs.Tests.{so, and_right}
 use Rattle.origins.specs.declared.Form.TheVariants as form-is
 use Rattle.reading.specs.Reading.{reading_of}
-use Rattle.limits.specs.declared.Answer.TheVariants.{BadPass}
+use Rattle.limits.specs.declared.Refusal.TheVariants.{BadPass}
+use Rattle.std.specs.declared.result.Result.TheVariants.{Ok, Err}
 use Rattle.steps.specs.Step.{step_of}
 use Rattle.passes.specs.Passes.{result_of}
 use Rattle.limits.specs.Entry.{small, is_short}
@@ -21,7 +22,7 @@ returns-then-not-is_pass c =
     let t = g.text.now in
     let xs = result_of (step_of (reading_of g.mode) g.pass) t in
     let s = is_short small (length g.a.now) (length g.b.now) (length g.c.now) (length g.d.now) (length g.e.now) (length g.u.now) in
-    record { answer = pass-bad small form-is.Ol g.pass g.mode s t xs (length g.out.now) (length g.orig.now) (so c.is_pass.ensures c.if-not-is_pass.true); memory = (out-kept BadPass xs g.out.now bad-done, all-kept small BadPass g.a.now g.b.now g.c.now g.d.now g.e.now g.u.now bad-runs); records = out-kept BadPass _ g.orig.now bad-done }
+    record { answer = pass-bad small form-is.Ol g.pass g.mode s t xs (length g.out.now) (length g.orig.now) (so c.is_pass.ensures c.if-not-is_pass.true); memory = (out-kept (Err BadPass) xs g.out.now bad-done, all-kept small (Err BadPass) g.a.now g.b.now g.c.now g.d.now g.e.now g.u.now bad-runs); records = out-kept (Err BadPass) _ g.orig.now bad-done }
 
 pub overflow_add-pass : goal.overflow_add-pass
 overflow_add-pass c = let k = c.args.pass in omega (arith, leb-true k 6 (and_right (leb 1 k) (leb k 6) (so c.is_pass.ensures c.if-not-is_pass.false)))

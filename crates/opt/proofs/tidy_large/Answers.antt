@@ -6,7 +6,7 @@ use lib.ListN.{length}
 use Rattle.reading.specs.Reading.{reading_of}
 use Rattle.limits.specs.declared.Limits.{Limits}
 use Rattle.limits.specs.declared.Task.{Task}
-use Rattle.limits.specs.declared.Answer.TheVariants.{Done}
+use Rattle.std.specs.declared.result.Result.TheVariants.{Ok, Err}
 use Rattle.limits.specs.Entry.{large, is_short, checked, in_mode, whole_answer}
 use Rattle.limits.proofs.AnswerLaws.{sane-large, out-kept}
 use Rattle.passes.specs.Passes.{result_of}
@@ -21,7 +21,7 @@ returns-then-short c =
     let s = is_short large (length g.a.now) (length g.b.now) (length g.c.now) (length g.d.now) (length g.e.now) (length g.u.now) in
     let xs = result_of (steps_of (reading_of g.mode) g.from (g.to - g.from)) g.text.now in
     let y = c.refused_task.result in
-    let p = short-answer y large g.form g.mode s g.text.now xs (length g.out.now) (length g.orig.now) (sym c.tables_short-short.ensures ∙ c.if-short.true) (c.refused_task.ensures ∙ ap (λ (m : Task). in_mode m.mode.0 (checked m.limits m.form true g.text.now (Done 0))) (c.task-m.ensures ∙ ap (λ (L : Limits). task_of L g.from g.to g.mode g.form) c.large.ensures)) in
+    let p = short-answer y large g.form g.mode s g.text.now xs (length g.out.now) (length g.orig.now) (sym c.tables_short-short.ensures ∙ c.if-short.true) (c.refused_task.ensures ∙ ap (λ (m : Task). in_mode m.mode.0 (checked m.limits m.form true g.text.now (Ok 0))) (c.task-m.ensures ∙ ap (λ (L : Limits). task_of L g.from g.to g.mode g.form) c.large.ensures)) in
     record { answer = p.0; memory = (out-kept y xs g.out.now p.1.0, large-kept large y g.a.now g.b.now g.c.now g.d.now g.e.now g.f.now g.g.now g.h.now g.u.now g.v.now g.w.now g.x.now g.p.now g.q.now g.r.now g.t.now g.own.now g.table.now p.1.1); records = out-kept y _ g.orig.now p.1.0 }
 
 pub tidy_lined-requires : goal.tidy_lined-requires

@@ -3,7 +3,7 @@ use Rattle.std.specs.Prelude.{ℕ, ◌≤◌, ◌≡◌, List, ◌++◌, length,
 use Rattle.origins.specs.declared.Form.{Form}
 use Rattle.limits.specs.declared.Limits.{Limits}
 use Rattle.limits.specs.declared.Task.{Task}
-use Rattle.limits.specs.declared.Answer.{Answer}
+use Rattle.limits.specs.Answer.{Answer}
 use Rattle.limits.specs.Entry.{byte_size, block_size, blank, work_after}
 
 -- the passes from a number up to another, in a mode, with records in a form, within limits
