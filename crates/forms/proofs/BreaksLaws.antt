@@ -8,17 +8,13 @@ use borrow.Author.Tests.{lt-ltb, le-ltb}
 use lib.Dec.{eqb}
 use lib.ListN.{length, drop, get_or, length-drop, drop_of_length-le}
 use lib.Seq.{drop-drop}
+use Rattle.std.specs.List.{list_any}
 use Rattle.lines.specs.Lf.{part, prefixed, holds}
 use Rattle.lines.proofs.Tests.{no, or-true, eqb-sym}
 use Rattle.lines.proofs.LfLaws.{rest_of}
-use Rattle.text.specs.declared.Span.{Span}
-use Rattle.std.specs.declared.option.Option.{Option}
-use Rattle.std.specs.declared.option.Option.TheVariants.{Some, None}
 use Rattle.lexical.specs.Lex.{strip_lexical}
-use Rattle.lexical.specs.Idents.{chars_go, words_go, words_in}
-use Rattle.lexical.specs.Inner.Idents.{next_word}
+use Rattle.lexical.specs.Idents.{words_in}
 use Rattle.lexical.proofs.EndLaws.{cons-at}
-use Rattle.lexical.proofs.WordLaws.{next-some, next-none}
 use Rattle.parse.specs.Parse.{parse_of}
 use Rattle.parse.specs.declared.Store.{Store}
 use Rattle.parse.specs.declared.Line.{Line}
@@ -115,28 +111,12 @@ writes-empty [] l h = ap (λ (t : Bool). holds (32 ∷ 61 ∷ []) l || t) (twice
     twice false = refl
 writes-empty (x ∷ n) l h = absurd (omega arith)
 
--- ---- the loop of `writes_any`
+-- ---- one of the words
 
--- the words from a place on
-abbrev pub words_from : List ℕ → ℕ → List (List ℕ)
-words_from t i = words_go (chars_go (drop i t) 0) []
-
-pub any-start : (t l : List ℕ) → writes_any (words_from t 0) l ≡ writes_any (words_in t) l
-unfolding words_in
-any-start t l = refl
-
-any-cons : (n : List ℕ) (ns : List (List ℕ)) (l : List ℕ) (b : Bool) → writes n l ≡ b → writes_any (n ∷ ns) l ≡ b || writes_any ns l
+pub any-writes : (ns : List (List ℕ)) (l : List ℕ) → list_any (λ n. writes n l) ns ≡ writes_any ns l
 unfolding writes_any
-any-cons n ns l b e = rw e
-
--- the next word, written or not, and no further word
-module _ (t l : List ℕ) (i : ℕ) where
-  pub any_word : {r : Option Span} {w : Span} → r ≡ next_word t i → r ≡ Some w → (n : List ℕ) → n ≡ part w.from w.to t → (b : Bool) → writes n l ≡ b → writes_any (words_from t i) l ≡ b || writes_any (words_from t w.to) l
-  any_word {r} {w} p q n m b h = ap (λ (ns : List (List ℕ)). writes_any ns l) (next-some t i w (sym p ∙ q)) ∙ any-cons _ _ l b (ap (λ (x : List ℕ). writes x l) (sym m) ∙ h)
-
-  pub any_none : next_word t i ≡ None → writes_any (words_from t i) l ≡ false
-  unfolding writes_any
-  any_none e = ap (λ (ns : List (List ℕ)). writes_any ns l) (next-none t i e)
+any-writes [] l = refl
+any-writes (n ∷ ns) l = ap (λ (b : Bool). writes n l || b) (any-writes ns l)
 
 -- ---- the whole
 

@@ -232,18 +232,7 @@ fn writes(name: &[u8], line: &[u8]) -> bool
 fn writes_any(clean: &[u8], line: &[u8]) -> bool
     ensures { result ≡ writes_any (words_in clean.now) line.now }
 {
-    let mut i = 0;
-    loop {
-        match lexical::next_word(clean, i) {
-            Some(w) => {
-                if writes(lines::cut(clean, w.from, w.to), line) {
-                    return true;
-                }
-                i = w.to;
-            }
-            None => return false,
-        }
-    }
+    lexical::idents::each(clean).any(|word| writes(word, line))
 }
 
 // Whether a line that was taken in stores a register that a value reads, or writes a word of the cleaned value.

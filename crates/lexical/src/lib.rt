@@ -1,6 +1,7 @@
 // Cleaning a line: comments go, and a literal leaves `S`; what is read from a cleaned line.
 #![tactic(auto)]
 
+pub mod idents;
 pub mod tokens;
 
 ghost use Rattle.std.specs.Prelude.{◌≡◌, [], true, false, cond, not, ℕ, ◌+◌, ◌≤◌, ◌<◌, max, length, take, drop, get_or, MatchOption};

@@ -13,8 +13,8 @@ loop-i-preserved c =
     let t = c.args.line.now in
     let l = c.loop-i in
     elim c.if-line-i.branch [
-      then-line-i+else-writes_here w ↦ sym (writes_at n t l.i c.loop-i-test.true false (so w.writes_here.ensures w.if-writes_here.false)) ∙ l.invariant
-    | else-line-i w ↦ sym (writes-skip n t l.i c.requires c.loop-i-test.true w.if-line-i.false) ∙ l.invariant
+      | then-line-i+else-writes_here w ↦ sym (writes_at n t l.i c.loop-i-test.true false (so w.writes_here.ensures w.if-writes_here.false)) ∙ l.invariant
+      | else-line-i w ↦ sym (writes-skip n t l.i c.requires c.loop-i-test.true w.if-line-i.false) ∙ l.invariant
     ]
 
 pub returns : goal.returns
