@@ -25,15 +25,6 @@ use Rattle.reader.proofs.Laws.{pass_on, pass-is, is_fine, fine-says}
 
 -- ---- a table of one number
 
-pub fill_none : (d : List ℕ) (x : ℕ) → Wrote d 0 (replicate 0 x) d 0
-fill_none d x = wrote-nil d 0 (omega arith)
-
-pub fill_on : {d₀ d : List ℕ} {i : ℕ} (x : ℕ) → i < length d → Wrote d₀ 0 (replicate i x) d i → Wrote d₀ 0 (replicate (i + 1) x) (set d i x) (i + 1)
-fill_on {i = i} x h w = wrote_as (replicate-append-replicate i 1 x) (wrote-more x w h)
-
-pub fill_end : {d₀ d : List ℕ} {i : ℕ} (x : ℕ) → i ≡ length d₀ → Wrote d₀ 0 (replicate i x) d i → d ≡ replicate (length d₀) x
-fill_end {i = i} x e w = wrote-whole w (length-replicate i x ∙ e) ∙ ap (λ (k : ℕ). replicate k x) e
-
 pub fill-length : (t : List ℕ) (x : ℕ) {t' : List ℕ} → t' ≡ replicate (length t) x → length t' ≡ length t
 fill-length t x e = ap length e ∙ length-replicate (length t) x
 

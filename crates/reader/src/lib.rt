@@ -354,17 +354,6 @@ pub fn lines_of(f: origins::Form, file: &[u8], n: usize, room: &mut [usize]) -> 
     }
 }
 
-// Puts one number everywhere into a table.
-fn fill(table: &mut [usize], x: usize)
-    ensures { table.new ≡ replicate (length table.old) x }
-{
-    let mut i = 0;
-    while i < table.len() {
-        table[i] = x;
-        i += 1;
-    }
-}
-
 // Puts line `i` in front of the chain of output line `n`, and answers which line was there; `end` where there is no such chain.
 fn link(first: &mut [usize], n: usize, i: usize, end: usize) -> usize
     ensures answer { result ≡ get_or first.old n end }
@@ -397,10 +386,8 @@ fn link_all(f: origins::Form, file: &[u8], m: usize, first: &mut [usize], next: 
     ensures firsts { first.new ≡ firsts_from m 0 (wents_in (form_shape f) file.now) 0 (length first.old) }
     ensures nexts { next.new ≡ at_front (nexts_from m (length first.old) 0 (wents_in (form_shape f) file.now)) next.old }
 {
-    fill(first, m);
-    let mut i = m;
-    while 0 < i {
-        i -= 1;
+    first.fill(m);
+    for i in (0..m).rev() {
         let w = record_at(f, file, i);
         let x = link_line(first, w, i, m);
         next[i] = x;

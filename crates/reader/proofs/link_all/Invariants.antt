@@ -6,6 +6,3 @@ use Rattle.reader.proofs.link_all.Given as goal
 
 abbrev pub invariant-loop-i : goal.invariant-loop-i
 invariant-loop-i l = ChainInv (wents_in (form_shape l.f) l.file) l.m (length l.initial.first) l.initial.next l.first l.next l.i
-
-abbrev pub decreases-loop-i : goal.decreases-loop-i
-decreases-loop-i l = l.i
