@@ -11,8 +11,8 @@ fn trim(a: &[u8], out: &mut [u8]) -> usize {
 // 0 where the bytes are UTF-8, else 1 and the first place where they are not.
 fn utf8(a: &[u8], out: &mut [u8]) -> usize {
     match text::check_utf8(a) {
-        text::Utf8::Valid => say_byte(out, 0, 0),
-        text::Utf8::Bad(i) => {
+        Ok(()) => say_byte(out, 0, 0),
+        Err(i) => {
             let o = say_byte(out, 0, 1);
             say_four(out, o, i)
         }

@@ -9,9 +9,8 @@ use lib.Dec.{leb, ltb}
 use lib.ListN.{length, drop}
 use Rattle.lines.specs.Lf.{within}
 use Rattle.lines.proofs.Tests.{no, and_left, and_right, and_both, is-in}
-use Rattle.text.specs.Utf8Form.{begins, grammar, seq_by, seq_len, bad_or, scan, utf8_of}
-use Rattle.text.specs.declared.Utf8.{Utf8}
-use Rattle.text.specs.declared.Utf8.TheVariants.{Valid, Bad}
+use Rattle.text.specs.Utf8Form.{begins, grammar, seq_by, seq_len, bad_or, scan, utf8_of, Utf8}
+use Rattle.std.specs.declared.result.Result.TheVariants.{Ok, Err}
 use Rattle.flaws.specs.declared.Flaw.{Flaw}
 use Rattle.flaws.specs.declared.Flaw.TheVariants.{Other, Cut, Overlong, Outside}
 use Rattle.flaws.specs.Flaws.{overlongs, outsides, any_begins, inside, any_inside, is_cut, flaw_of}
@@ -115,37 +114,37 @@ cut-full x xs h = full grammar x xs refl (cut_inside (x ∷ xs) h)
 -- ---- the scan
 
 -- a sequence that takes all that is left
-scan-out : (k i : ℕ) (l : List ℕ) → length l ≤ k → scan k i l ≡ Valid
+scan-out : (k i : ℕ) (l : List ℕ) → length l ≤ k → scan k i l ≡ Ok tt
 unfolding scan
 scan-out k i [] h = refl
 scan-out zero i (x ∷ xs) h = absurd (omega arith)
 scan-out (suc k) i (x ∷ xs) h = scan-out k (suc i) xs (omega arith)
 
 place_in : ℕ → Utf8 → ℕ
-place_in d Valid = d
-place_in d (Bad j) = j
+place_in d (Ok tt) = d
+place_in d (Err j) = j
 
-bad-same : (i j : ℕ) → Bad i ≡ Bad j → i ≡ j
+bad-same : (i j : ℕ) → Err i ≡ Err j → i ≡ j
 unfolding place_in
 bad-same i j e = ap (place_in i) e
 
-valid-bad : {A : Type 0} (i : ℕ) → Valid ≡ Bad i → A
+valid-bad : {A : Type 0} (i : ℕ) → (Ok tt) ≡ Err i → A
 valid-bad i e = bad-valid i (sym e)
 
 -- the bad place is in the list
-scan-ge : (k i : ℕ) (s : List ℕ) (m : ℕ) → scan k i s ≡ Bad m → i ≤ m
+scan-ge : (k i : ℕ) (s : List ℕ) (m : ℕ) → scan k i s ≡ Err m → i ≤ m
 unfolding scan
 scan-ge k i [] m e = valid-bad m e
 scan-ge (suc k) i (x ∷ xs) m e = let z = scan-ge k (suc i) xs m e in omega arith
 scan-ge zero i (x ∷ xs) m e = go (seq_len (x ∷ xs)) e (λ k. scan-ge k (suc i) xs m)
   where
-    go : (n : ℕ) → bad_or n i (λ k. scan k (suc i) xs) ≡ Bad m → ((k : ℕ) → scan k (suc i) xs ≡ Bad m → suc i ≤ m) → i ≤ m
+    go : (n : ℕ) → bad_or n i (λ k. scan k (suc i) xs) ≡ Err m → ((k : ℕ) → scan k (suc i) xs ≡ Err m → suc i ≤ m) → i ≤ m
     go zero h f = let z = bad-same i m h in omega (arith, z)
     go (suc k) h f = let z = f k h in omega arith
 
 -- bytes that make the rest well-formed
 abbrev Completed : ℕ → ℕ → List ℕ → Type 0
-Completed k i s = (r : List ℕ) × (scan k i (s ++ r) ≡ Valid)
+Completed k i s = (r : List ℕ) × (scan k i (s ++ r) ≡ Ok tt)
 
 module _ (i x : ℕ) (xs : List ℕ) (m : ℕ) where
   done-rows : (k : ℕ) (r : List ℕ) → seq_len (x ∷ xs) ≡ suc k → RowsTo grammar (x ∷ xs) r → seq_len (x ∷ xs ++ r) ≡ suc k
@@ -156,8 +155,8 @@ module _ (i x : ℕ) (xs : List ℕ) (m : ℕ) where
   done_on : (k : ℕ) → seq_len (x ∷ xs) ≡ suc k → Completed k (suc i) xs → Completed 0 i (x ∷ xs)
   done_on k e (r, h) = (r, scan-by i x (xs ++ r) (suc k) (done-rows k r e (rows grammar (x ∷ xs) r)) ∙ h)
 
-  done-seq : (n j : ℕ) → seq_len (x ∷ xs) ≡ n → m ≡ i + j → scan 0 i (x ∷ xs) ≡ Bad m → is_cut (drop j (x ∷ xs)) ≡ true →
-      ((k j : ℕ) → m ≡ suc i + j → scan k (suc i) xs ≡ Bad m → is_cut (drop j xs) ≡ true → Completed k (suc i) xs) → Completed 0 i (x ∷ xs)
+  done-seq : (n j : ℕ) → seq_len (x ∷ xs) ≡ n → m ≡ i + j → scan 0 i (x ∷ xs) ≡ Err m → is_cut (drop j (x ∷ xs)) ≡ true →
+      ((k j : ℕ) → m ≡ suc i + j → scan k (suc i) xs ≡ Err m → is_cut (drop j xs) ≡ true → Completed k (suc i) xs) → Completed 0 i (x ∷ xs)
   done-seq zero zero e q h c f = (
     fill_by grammar (x ∷ xs),
     scan-by i x (xs ++ fill_by grammar (x ∷ xs)) (suc (length (xs ++ fill_by grammar (x ∷ xs)))) (cut-full x xs c)
@@ -167,7 +166,7 @@ module _ (i x : ℕ) (xs : List ℕ) (m : ℕ) where
   done-seq (suc k) zero e q h c f = let z = scan-ge k (suc i) xs m (sym (scan-by i x xs (suc k) e) ∙ h) in absurd (omega (arith, z, q))
   done-seq (suc k) (suc j) e q h c f = done_on k e (f k j (omega (arith, q)) (sym (scan-by i x xs (suc k) e) ∙ h) c)
 
-done : (k i : ℕ) (s : List ℕ) (m j : ℕ) → m ≡ i + j → scan k i s ≡ Bad m → is_cut (drop j s) ≡ true → Completed k i s
+done : (k i : ℕ) (s : List ℕ) (m j : ℕ) → m ≡ i + j → scan k i s ≡ Err m → is_cut (drop j s) ≡ true → Completed k i s
 unfolding scan
 done k i [] m j q h c = valid-bad m h
 done (suc k) i (x ∷ xs) m zero q h c = let z = scan-ge k (suc i) xs m h in absurd (omega (arith, z, q))
@@ -194,12 +193,12 @@ flaw-is-cut l e = go (any_begins overlongs l) (any_begins outsides l) (is_cut l)
     go false false false h = no h
 
 -- where a text is bad and the flaw is a cut sequence, some bytes behind it make it well-formed
-pub cut-whole : (s : List ℕ) (i : ℕ) → utf8_of s ≡ Bad i → flaw_of (drop i s) ≡ Cut → (r : List ℕ) × (utf8_of (s ++ r) ≡ Valid)
+pub cut-whole : (s : List ℕ) (i : ℕ) → utf8_of s ≡ Err i → flaw_of (drop i s) ≡ Cut → (r : List ℕ) × (utf8_of (s ++ r) ≡ Ok tt)
 unfolding utf8_of
 cut-whole s i h f = done 0 0 s i i (omega arith) h (flaw-is-cut (drop i s) f)
 
 -- and where some bytes behind a bad text make it well-formed, the flaw is that
-pub cut-only : (s r : List ℕ) (i : ℕ) → utf8_of s ≡ Bad i → utf8_of (s ++ r) ≡ Valid → flaw_of (drop i s) ≡ Cut
+pub cut-only : (s r : List ℕ) (i : ℕ) → utf8_of s ≡ Err i → utf8_of (s ++ r) ≡ Ok tt → flaw_of (drop i s) ≡ Cut
 cut-only s r i h v = go (front-valid s r v)
   where
     go : CutShort s → flaw_of (drop i s) ≡ Cut

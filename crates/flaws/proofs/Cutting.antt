@@ -9,9 +9,8 @@ use lib.Dec.{leb, ltb}
 use lib.ListN.{length, take, drop}
 use Rattle.lines.specs.Lf.{within}
 use Rattle.lines.proofs.Tests.{no, and_left, and_right, and-false, is_below, is-above}
-use Rattle.text.specs.Utf8Form.{begins, grammar, seq_by, seq_len, bad_or, scan, utf8_of}
-use Rattle.text.specs.declared.Utf8.{Utf8}
-use Rattle.text.specs.declared.Utf8.TheVariants.{Valid, Bad}
+use Rattle.text.specs.Utf8Form.{begins, grammar, seq_by, seq_len, bad_or, scan, utf8_of, Utf8}
+use Rattle.std.specs.declared.result.Result.TheVariants.{Ok, Err}
 use Rattle.flaws.specs.declared.Flaw.TheVariants.{Cut}
 use Rattle.flaws.specs.Flaws.{overlongs, outsides, any_begins, inside, any_inside, is_cut, flaw_of}
 use Rattle.flaws.proofs.FlawLaws.{flaw-cut}
@@ -142,35 +141,35 @@ pub scan-by : (i x : ℕ) (xs : List ℕ) (n : ℕ) → seq_len (x ∷ xs) ≡ n
 unfolding scan
 scan-by i x xs n e = ap (λ (m : ℕ). bad_or m i (λ k. scan k (suc i) xs)) e
 
-pub bad-valid : {A : Type 0} (i : ℕ) → Bad i ≡ Valid → A
+pub bad-valid : {A : Type 0} (i : ℕ) → Err i ≡ Ok tt → A
 bad-valid {A} i e = no (ap is_bad e)
   where
     is_bad : Utf8 → Bool
-    is_bad Valid = true
-    is_bad (Bad j) = false
+    is_bad (Ok tt) = true
+    is_bad (Err j) = false
 
 -- what the scan of a front gives: nothing bad, or a place that is j bytes on, where a sequence was cut
 data Scanned (k i : ℕ) (s : List ℕ) : Type 0 where
-  fine : scan k i s ≡ Valid → Scanned k i s
-  stops : (j m : ℕ) → m ≡ i + j → scan k i s ≡ Bad m → is_cut (drop j s) ≡ true → flaw_of (drop j s) ≡ Cut → Scanned k i s
+  fine : scan k i s ≡ Ok tt → Scanned k i s
+  stops : (j m : ℕ) → m ≡ i + j → scan k i s ≡ Err m → is_cut (drop j s) ≡ true → flaw_of (drop j s) ≡ Cut → Scanned k i s
 
 front-on : (k k' i x : ℕ) (xs : List ℕ) → scan k i (x ∷ xs) ≡ scan k' (suc i) xs → Scanned k' (suc i) xs → Scanned k i (x ∷ xs)
 front-on k k' i x xs e (fine h) = fine (e ∙ h)
 front-on k k' i x xs e (stops j m q h c f) = stops (suc j) m (omega (arith, q)) (e ∙ h) c f
 
-module _ (i x : ℕ) (xs r : List ℕ) (ih : (k : ℕ) → scan k (suc i) (xs ++ r) ≡ Valid → Scanned k (suc i) xs) where
-  front-seq : (n : ℕ) → seq_len (x ∷ (xs ++ r)) ≡ n → seq_len (x ∷ xs) ≡ n → scan 0 i (x ∷ (xs ++ r)) ≡ Valid → Scanned 0 i (x ∷ xs)
+module _ (i x : ℕ) (xs r : List ℕ) (ih : (k : ℕ) → scan k (suc i) (xs ++ r) ≡ Ok tt → Scanned k (suc i) xs) where
+  front-seq : (n : ℕ) → seq_len (x ∷ (xs ++ r)) ≡ n → seq_len (x ∷ xs) ≡ n → scan 0 i (x ∷ (xs ++ r)) ≡ Ok tt → Scanned 0 i (x ∷ xs)
   front-seq zero e f v = bad-valid i (sym (scan-by i x (xs ++ r) zero e) ∙ v)
   front-seq (suc k) e f v = front-on 0 k i x xs (scan-by i x xs (suc k) f) (ih k (sym (scan-by i x (xs ++ r) (suc k) e) ∙ v))
 
-  front-rows : RowsTo grammar (x ∷ xs) r → scan 0 i (x ∷ (xs ++ r)) ≡ Valid → Scanned 0 i (x ∷ xs)
+  front-rows : RowsTo grammar (x ∷ xs) r → scan 0 i (x ∷ (xs ++ r)) ≡ Ok tt → Scanned 0 i (x ∷ xs)
   unfolding seq_len
   front-rows (sames e) v = front-seq (seq_len (x ∷ (xs ++ r))) refl (sym e) v
   front-rows (shorts h) v =
       let c = cut-flaw x xs (cut-is x xs h) in
       stops 0 i (omega arith) (scan-by i x xs 0 c.0) (cut-is x xs h) c.1
 
-fronted : (k i : ℕ) (s r : List ℕ) → scan k i (s ++ r) ≡ Valid → Scanned k i s
+fronted : (k i : ℕ) (s r : List ℕ) → scan k i (s ++ r) ≡ Ok tt → Scanned k i s
 unfolding scan
 fronted k i [] r v = fine refl
 fronted (suc k) i (x ∷ xs) r v = front-on (suc k) k i x xs refl (fronted k (suc i) xs r v)
@@ -180,17 +179,17 @@ fronted zero i (x ∷ xs) r v = front-rows i x xs r (λ k w. fronted k (suc i) x
 
 -- a text is well-formed, or its first bad byte is where the rest is the proper start of a sequence, and the flaw is that
 pub data CutShort (s : List ℕ) : Type 0 where
-  whole : utf8_of s ≡ Valid → CutShort s
-  cut_at : (i : ℕ) → utf8_of s ≡ Bad i → is_cut (drop i s) ≡ true → flaw_of (drop i s) ≡ Cut → CutShort s
+  whole : utf8_of s ≡ Ok tt → CutShort s
+  cut_at : (i : ℕ) → utf8_of s ≡ Err i → is_cut (drop i s) ≡ true → flaw_of (drop i s) ≡ Cut → CutShort s
 
 -- what stands in front of anything in a well-formed text
-pub front-valid : (s r : List ℕ) → utf8_of (s ++ r) ≡ Valid → CutShort s
+pub front-valid : (s r : List ℕ) → utf8_of (s ++ r) ≡ Ok tt → CutShort s
 unfolding utf8_of
 front-valid s r v = go (fronted 0 0 s r v)
   where
     go : Scanned 0 0 s → CutShort s
     go (fine h) = whole h
-    go (stops j m q h c f) = let z : m ≡ j = omega (arith, q) in cut_at j (h ∙ ap Bad z) c f
+    go (stops j m q h c f) = let z : m ≡ j = omega (arith, q) in cut_at j (h ∙ ap Err z) c f
 
 take-drop : (n : ℕ) (t : List ℕ) → take n t ++ drop n t ≡ t
 take-drop zero t = refl
@@ -198,5 +197,5 @@ take-drop (suc n) [] = refl
 take-drop (suc n) (x ∷ t) = ap (λ (w : List ℕ). x ∷ w) (take-drop n t)
 
 -- a well-formed text cut anywhere
-pub cut-valid : (t : List ℕ) (n : ℕ) → utf8_of t ≡ Valid → CutShort (take n t)
+pub cut-valid : (t : List ℕ) (n : ℕ) → utf8_of t ≡ Ok tt → CutShort (take n t)
 cut-valid t n v = front-valid (take n t) (drop n t) (ap utf8_of (take-drop n t) ∙ v)

@@ -14,9 +14,8 @@ use Rattle.lines.specs.Lf.{within}
 use Rattle.lines.specs.Inner.Out.{put_at, Wrote}
 use Rattle.lines.specs.Steps.{split_lines, over_from}
 use Rattle.lines.proofs.Tests.{no}
-use Rattle.text.specs.declared.Utf8 as utf8
-use Rattle.text.specs.declared.Utf8.TheVariants as utf8-is
-use Rattle.text.specs.Utf8Form.{utf8_of}
+use Rattle.text.specs.Utf8Form.{Utf8, utf8_of}
+use Rattle.std.specs.declared.result.Result.TheVariants.{Ok, Err}
 use Rattle.origins.specs.declared.Form.{Form}
 use Rattle.origins.specs.declared.Form.TheVariants as form
 use Rattle.flaws.specs.declared.Flaw as flaw
@@ -24,7 +23,6 @@ use Rattle.flaws.specs.declared.Flaw.TheVariants as flaw-is
 use Rattle.flaws.specs.Flaws.{flaw_of}
 use Rattle.limits.specs.declared.Limits.{Limits}
 use Rattle.limits.specs.declared.Refusal.TheVariants.{BadPass, TooLong, ShortWork, TooManyLines, ShortResult, BadMode, ShortRecords, WideLines}
-use Rattle.std.specs.declared.result.Result.TheVariants.{Ok, Err}
 use Rattle.limits.specs.Answer.{Answer, number_of, length_of, place_of, passes_ran, is_done}
 use Rattle.limits.specs.Entry.{small, large, is_wide, by_flaw, by_utf8, by_crowd, checked_lines, checked, records_need, roomed, answer_of, modes, in_mode, whole_answer, pass_answer, blank, work_after, out_after}
 use Rattle.limits.specs.Inner.Sane.{Sane, Within}
@@ -53,11 +51,11 @@ module _ (L : Limits) (F : Form) (t : List ℕ) (fine : Answer) where
     unfolding checked
     work-short h e = rw (le-ltb L.bytes (length t) h, e)
 
-    pub text-read : length t ≤ L.bytes → short ≡ false → {x : utf8.Utf8} → utf8_of t ≡ x → by_utf8 x t (checked_lines L F t fine) ≡ checked L F short t fine
+    pub text-read : length t ≤ L.bytes → short ≡ false → {x : Utf8} → utf8_of t ≡ x → by_utf8 x t (checked_lines L F t fine) ≡ checked L F short t fine
     unfolding checked
     text-read h e q = rw (le-ltb L.bytes (length t) h, e, q)
 
-    pub text-bad : length t ≤ L.bytes → short ≡ false → {r : Answer} {f : flaw.Flaw} {i : ℕ} → r ≡ by_flaw f i → f ≡ flaw_of (drop i t) → utf8_of t ≡ utf8-is.Bad i → r ≡ checked L F short t fine
+    pub text-bad : length t ≤ L.bytes → short ≡ false → {r : Answer} {f : flaw.Flaw} {i : ℕ} → r ≡ by_flaw f i → f ≡ flaw_of (drop i t) → utf8_of t ≡ Err i → r ≡ checked L F short t fine
     text-bad h e {i = i} p q w = p ∙ ap (λ (y : flaw.Flaw). by_flaw y i) q ∙ text-read h e w
 
 -- ---- a text that no check refuses, and one that a check refuses
@@ -71,35 +69,35 @@ flaw-done flaw-is.Overlong i = (refl, refl)
 flaw-done flaw-is.Outside i = (refl, refl)
 
 -- the checks by what each asks
-abbrev pub tests : Limits → Bool → Bool → utf8.Utf8 → List ℕ → Bool → Bool → Option ℕ → Answer → Answer
+abbrev pub tests : Limits → Bool → Bool → Utf8 → List ℕ → Bool → Bool → Option ℕ → Answer → Answer
 tests L p s v t q w o x = cond p (Err (TooLong L.bytes)) (cond s (Err ShortWork) (by_utf8 v t (cond q (Err (TooManyLines L.lines)) (cond w (Err WideLines) (by_crowd o x)))))
 
-record Passed (L : Limits) (p s : Bool) (v : utf8.Utf8) (t : List ℕ) (q w : Bool) (o : Option ℕ) : Type 0 where
+record Passed (L : Limits) (p s : Bool) (v : Utf8) (t : List ℕ) (q w : Bool) (o : Option ℕ) : Type 0 where
   not-long : p ≡ false
   not_short : s ≡ false
   not-many : q ≡ false
   same : (x : Answer) → tests L p s v t q w o x ≡ x
 
-passed-by : (L : Limits) (p s : Bool) (v : utf8.Utf8) (t : List ℕ) (q w : Bool) (o : Option ℕ) → is_done (tests L p s v t q w o (Ok 0)) ≡ true → Passed L p s v t q w o
+passed-by : (L : Limits) (p s : Bool) (v : Utf8) (t : List ℕ) (q w : Bool) (o : Option ℕ) → is_done (tests L p s v t q w o (Ok 0)) ≡ true → Passed L p s v t q w o
 unfolding is_done
 passed-by L true s v t q w o h = no h
 passed-by L false true v t q w o h = no h
-passed-by L false false (utf8-is.Bad i) t q w o h = no (sym (flaw-done (flaw_of (drop i t)) i).0 ∙ h)
-passed-by L false false utf8-is.Valid t true w o h = no h
-passed-by L false false utf8-is.Valid t false true o h = no h
-passed-by L false false utf8-is.Valid t false false (Some n) h = no h
-passed-by L false false utf8-is.Valid t false false None h = record { not-long = refl; not_short = refl; not-many = refl; same = λ x. refl }
+passed-by L false false (Err i) t q w o h = no (sym (flaw-done (flaw_of (drop i t)) i).0 ∙ h)
+passed-by L false false (Ok tt) t true w o h = no h
+passed-by L false false (Ok tt) t false true o h = no h
+passed-by L false false (Ok tt) t false false (Some n) h = no h
+passed-by L false false (Ok tt) t false false None h = record { not-long = refl; not_short = refl; not-many = refl; same = λ x. refl }
 
-stopped_by : (L : Limits) (p s : Bool) (v : utf8.Utf8) (t : List ℕ) (q w : Bool) (o : Option ℕ) → is_done (tests L p s v t q w o (Ok 0)) ≡ false → (x : Answer) →
+stopped_by : (L : Limits) (p s : Bool) (v : Utf8) (t : List ℕ) (q w : Bool) (o : Option ℕ) → is_done (tests L p s v t q w o (Ok 0)) ≡ false → (x : Answer) →
     (tests L p s v t q w o x ≡ tests L p s v t q w o (Ok 0)) × (passes_ran (tests L p s v t q w o (Ok 0)) ≡ false)
 unfolding is_done passes_ran
 stopped_by L true s v t q w o h x = (refl, refl)
 stopped_by L false true v t q w o h x = (refl, refl)
-stopped_by L false false (utf8-is.Bad i) t q w o h x = (refl, (flaw-done (flaw_of (drop i t)) i).1)
-stopped_by L false false utf8-is.Valid t true w o h x = (refl, refl)
-stopped_by L false false utf8-is.Valid t false true o h x = (refl, refl)
-stopped_by L false false utf8-is.Valid t false false (Some n) h x = (refl, refl)
-stopped_by L false false utf8-is.Valid t false false None h x = no (sym h)
+stopped_by L false false (Err i) t q w o h x = (refl, (flaw-done (flaw_of (drop i t)) i).1)
+stopped_by L false false (Ok tt) t true w o h x = (refl, refl)
+stopped_by L false false (Ok tt) t false true o h x = (refl, refl)
+stopped_by L false false (Ok tt) t false false (Some n) h x = (refl, refl)
+stopped_by L false false (Ok tt) t false false None h x = no (sym h)
 
 -- no check refuses a text: a work buffer is not too short, and the text is within the limits
 pub record Accepted (L : Limits) (F : Form) (short : Bool) (t : List ℕ) : Type 0 where

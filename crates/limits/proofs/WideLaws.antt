@@ -11,9 +11,8 @@ use Rattle.std.specs.declared.option.Option.TheVariants.{Some, None}
 use Rattle.lines.specs.Lf.{within}
 use Rattle.lines.specs.Steps.{split_lines, over_from}
 use Rattle.lines.proofs.Tests.{no}
-use Rattle.text.specs.declared.Utf8 as utf8
-use Rattle.text.specs.declared.Utf8.TheVariants as utf8-is
-use Rattle.text.specs.Utf8Form.{utf8_of}
+use Rattle.text.specs.Utf8Form.{Utf8, utf8_of}
+use Rattle.std.specs.declared.result.Result.TheVariants.{Ok, Err}
 use Rattle.origins.specs.declared.Form.{Form}
 use Rattle.origins.specs.declared.Form.TheVariants as form
 use Rattle.flaws.specs.declared.Flaw as flaw
@@ -21,7 +20,6 @@ use Rattle.flaws.specs.declared.Flaw.TheVariants as flaw-is
 use Rattle.flaws.specs.Flaws.{flaw_of}
 use Rattle.limits.specs.declared.Limits.{Limits}
 use Rattle.limits.specs.declared.Refusal.TheVariants.{BadPass, ShortResult, BadMode, ShortRecords, WideLines}
-use Rattle.std.specs.declared.result.Result.TheVariants.{Ok, Err}
 use Rattle.limits.specs.Answer.{Answer, number_of}
 use Rattle.limits.specs.Entry.{small, is_wide, by_flaw, checked_lines, checked, records_need, roomed, answer_of, modes, whole_answer, pass_answer}
 use Rattle.limits.proofs.AnswerLaws.{tests, never-om, never-small, mode-good, text-read, lines-wide}
@@ -48,15 +46,15 @@ room-narrow n room need have = go (ltb room n) (ltb have need)
     go false true = refl
     go false false = refl
 
-tests-narrow : (L : Limits) (p s : Bool) (v : utf8.Utf8) (t : List ℕ) (q w : Bool) (o : Option ℕ) (x : Answer) → (q ≡ false → w ≡ false) → is_refusal x ≡ false → is_refusal (tests L p s v t q w o x) ≡ false
+tests-narrow : (L : Limits) (p s : Bool) (v : Utf8) (t : List ℕ) (q w : Bool) (o : Option ℕ) (x : Answer) → (q ≡ false → w ≡ false) → is_refusal x ≡ false → is_refusal (tests L p s v t q w o x) ≡ false
 unfolding number_of
 tests-narrow L true s v t q w o x h k = refl
 tests-narrow L false true v t q w o x h k = refl
-tests-narrow L false false (utf8-is.Bad i) t q w o x h k = flaw-narrow (flaw_of (drop i t)) i
-tests-narrow L false false utf8-is.Valid t true w o x h k = refl
-tests-narrow L false false utf8-is.Valid t false true o x h k = no (sym (h refl))
-tests-narrow L false false utf8-is.Valid t false false (Some n) x h k = refl
-tests-narrow L false false utf8-is.Valid t false false None x h k = k
+tests-narrow L false false (Err i) t q w o x h k = flaw-narrow (flaw_of (drop i t)) i
+tests-narrow L false false (Ok tt) t true w o x h k = refl
+tests-narrow L false false (Ok tt) t false true o x h k = no (sym (h refl))
+tests-narrow L false false (Ok tt) t false false (Some n) x h k = refl
+tests-narrow L false false (Ok tt) t false false None x h k = k
 
 module _ (L : Limits) (F : Form) (k mode : ℕ) (short : Bool) (t xs : List ℕ) (room have : ℕ) where
   -- where a form has numbers for every number of lines within limits
@@ -96,9 +94,9 @@ never-wide-whole-om L mode short t xs room have = never-wide-om L 1 mode short t
 -- ---- and who is
 
 -- a text in UTF-8 and within limits with more than 65,535 lines, where `OL` is asked for: whatever its brackets are, and whatever becomes of it
-pub wide-refused : (L : Limits) (mode : ℕ) (t xs : List ℕ) (room have : ℕ) → mode < modes → length t ≤ L.bytes → utf8_of t ≡ utf8-is.Valid → length (split_lines t) ≤ L.lines → 65535 < length (split_lines t) →
+pub wide-refused : (L : Limits) (mode : ℕ) (t xs : List ℕ) (room have : ℕ) → mode < modes → length t ≤ L.bytes → utf8_of t ≡ Ok tt → length (split_lines t) ≤ L.lines → 65535 < length (split_lines t) →
     whole_answer L form.Ol mode false t xs room have ≡ (Err WideLines)
 unfolding whole_answer answer_of
 wide-refused L mode t xs room have m b u l w =
     let fine : Answer = roomed (length xs) room (records_need form.Ol t) have in
-    sym (mode-good mode {x = checked L form.Ol false t fine} m (lines-wide L form.Ol t fine l (lt-ltb 65535 (length (split_lines t)) w) ∙ text-read L form.Ol t fine false b refl {x = utf8-is.Valid} u))
+    sym (mode-good mode {x = checked L form.Ol false t fine} m (lines-wide L form.Ol t fine l (lt-ltb 65535 (length (split_lines t)) w) ∙ text-read L form.Ol t fine false b refl {x = (Ok tt)} u))

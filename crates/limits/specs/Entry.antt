@@ -5,9 +5,8 @@ use Rattle.std.specs.declared.option.Option.{Option}
 use Rattle.std.specs.declared.option.Option.TheVariants.{Some, None}
 use Rattle.lines.specs.Lf.{within}
 use Rattle.lines.specs.Steps.{split_lines, over_from}
-use Rattle.text.specs.declared.Utf8 as utf8
-use Rattle.text.specs.declared.Utf8.TheVariants as utf8-is
-use Rattle.text.specs.Utf8Form.{utf8_of}
+use Rattle.text.specs.Utf8Form.{Utf8, utf8_of}
+use Rattle.std.specs.declared.result.Result.TheVariants.{Ok, Err}
 use Rattle.origins.specs.declared.Form.{Form}
 use Rattle.origins.specs.declared.Form.TheVariants as form
 use Rattle.origins.specs.Form.{form_shape, size_of}
@@ -16,7 +15,6 @@ use Rattle.flaws.specs.declared.Flaw.TheVariants as flaw-is
 use Rattle.flaws.specs.Flaws.{flaw_of}
 use Rattle.limits.specs.declared.Limits.{Limits}
 use Rattle.limits.specs.declared.Refusal.TheVariants.{BadPass, TooLong, ShortWork, NotUtf8, TooManyLines, Crowded, ShortResult, Cut, Overlong, Outside, BadMode, ShortRecords, WideLines}
-use Rattle.std.specs.declared.result.Result.TheVariants.{Ok, Err}
 use Rattle.limits.specs.Answer.{Answer, passes_ran, is_done}
 
 -- the most bytes and the most lines of a text that `optimize` and `run_pass` take
@@ -72,9 +70,9 @@ by_flaw flaw-is.Cut i = Err (Cut i)
 by_flaw flaw-is.Overlong i = Err (Overlong i)
 by_flaw flaw-is.Outside i = Err (Outside i)
 
-abbrev pub by_utf8 : utf8.Utf8 → List ℕ → Answer → Answer
-by_utf8 utf8-is.Valid t fine = fine
-by_utf8 (utf8-is.Bad i) t fine = by_flaw (flaw_of (drop i t)) i
+abbrev pub by_utf8 : Utf8 → List ℕ → Answer → Answer
+by_utf8 (Ok tt) t fine = fine
+by_utf8 (Err i) t fine = by_flaw (flaw_of (drop i t)) i
 
 abbrev pub by_crowd : Option ℕ → Answer → Answer
 by_crowd None fine = fine

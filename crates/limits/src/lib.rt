@@ -281,8 +281,8 @@ pub fn refused(m: Limits, form: origins::Form, text: &[u8], short: bool) -> Answ
         return Err(Refusal::ShortWork);
     }
     match text::check_utf8(text) {
-        text::Utf8::Bad(i) => by_flaw(flaws::flaw_at(text, i), i),
-        text::Utf8::Valid => refused_lines(m, form, text),
+        Err(i) => by_flaw(flaws::flaw_at(text, i), i),
+        Ok(()) => refused_lines(m, form, text),
     }
 }
 

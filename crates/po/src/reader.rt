@@ -12,7 +12,6 @@ ghost use Rattle.po.specs.Inner.Index.{Tells};
 ghost use Rattle.po.specs.Inner.ReadWalk.{formed, is_reference, follows, next_of, state_at, gives_one, gives, same_id, At, read_verdict};
 
 use crate::{Line, Seek, Strings, file_name, index, same_text, unit_at};
-use text::Utf8;
 
 const QUOTE: u8 = 34;
 
@@ -31,8 +30,8 @@ fn is_utf8(l: &[u8]) -> bool
     ensures { result ≡ is_valid (utf8_of l.now) }
 {
     match text::check_utf8(l) {
-        Utf8::Valid => true,
-        Utf8::Bad(_) => false,
+        Ok(()) => true,
+        Err(_) => false,
     }
 }
 

@@ -12,7 +12,7 @@ use Rattle.lines.specs.Inner.Lf.{lacks, no_lf}
 use Rattle.lines.proofs.Tests.{no, and_both, or-true}
 use Rattle.lines.proofs.Compare.{same_refl}
 use Rattle.text.specs.Utf8Form.{utf8_of}
-use Rattle.text.specs.declared.Utf8.TheVariants.{Valid}
+use Rattle.std.specs.declared.result.Result.TheVariants.{Ok, Err}
 use Rattle.po.specs.declared.Po.TheVariants as po
 use Rattle.po.specs.declared.Strings.{Strings}
 use Rattle.po.specs.declared.Strings.TheVariants as strings
@@ -96,7 +96,7 @@ strings-of : {m : ℕ} {ids : List (List ℕ)} {rs : List Message} → Sounds m 
 strings-of no_row = no-string
 strings-of (row_on s t) = string-on (utf-valid s.string) (strings-of t)
 
-answer-of : (name t : List ℕ) → is_file_name name ≡ true → utf8_of t ≡ Valid → first_flaw (literals t) ≡ flaw.None → po_answer name t (length (po_text name t)) ≡ po.Done (length (po_text name t))
+answer-of : (name t : List ℕ) → is_file_name name ≡ true → utf8_of t ≡ Ok tt → first_flaw (literals t) ≡ flaw.None → po_answer name t (length (po_text name t)) ≡ po.Done (length (po_text name t))
 unfolding po_answer po_checked
 answer-of name t i v f =
     let z : ltb (length (po_text name t)) (length (po_text name t)) ≡ false = le-ltb (length (po_text name t)) (length (po_text name t)) (omega arith) in

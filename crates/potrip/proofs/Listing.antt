@@ -13,7 +13,7 @@ use Rattle.lines.proofs.Tests.{and_both}
 use Rattle.lines.proofs.LfLaws.{lines-unlines}
 use Rattle.lexical.specs.Lex.{quote_len, token_of}
 use Rattle.text.specs.Utf8Form.{utf8_of}
-use Rattle.text.specs.declared.Utf8.TheVariants.{Valid}
+use Rattle.std.specs.declared.result.Result.TheVariants.{Ok, Err}
 use Rattle.po.specs.declared.Flaw.{Flaw}
 use Rattle.po.specs.declared.Flaw.TheVariants as flaw
 use Rattle.po.specs.Found.{lit_closed, odds, Literal, literals_go, literals_of, literals, literal_text, Entry, known, left_out, firsts, entries}
@@ -267,7 +267,7 @@ more-utf m (entry-on {e} {es} u v) = go (eqb e.line m) (more-utf m v) (blank-utf
     go true w z = w
     go false w z = z
 
-pub listing-valid : {es : List Entry} → Valids es → utf8_of (listing_of es) ≡ Valid
+pub listing-valid : {es : List Entry} → Valids es → utf8_of (listing_of es) ≡ Ok tt
 listing-valid {es} v = utf-valid (text-on (line_of 1 es) (more_of 1 es) (line-utf 1 v) (more-utf 1 v))
 
 -- ---- its entries

@@ -2,7 +2,7 @@
 use Rattle.std.specs.Prelude.{ℕ, ◌^◌, ◌<◌, ◌≡◌, List, [], ◌∷◌, ◌++◌, length}
 use Rattle.lines.specs.Lf.{lines_of, unlines}
 use Rattle.text.specs.Utf8Form.{utf8_of}
-use Rattle.text.specs.declared.Utf8.TheVariants.{Valid}
+use Rattle.std.specs.declared.result.Result.TheVariants.{Ok, Err}
 use Rattle.po.specs.declared.Po.TheVariants as po
 use Rattle.po.specs.declared.Strings.TheVariants as strings
 use Rattle.po.specs.Found.{Entry, entries}
@@ -21,7 +21,7 @@ entries_of (r ∷ rs) = r.entry ∷ entries_of rs
 -- every translation is UTF-8
 pub data Translated : List Message → Type 0 where
   no-string : Translated []
-  string-on : {r : Message} {rs : List Message} → utf8_of r.str ≡ Valid → Translated rs → Translated (r ∷ rs)
+  string-on : {r : Message} {rs : List Message} → utf8_of r.str ≡ Ok tt → Translated rs → Translated (r ∷ rs)
 
 -- the lines of entries, with their translations
 abbrev pub message_lines : List ℕ → List Message → List (List ℕ)

@@ -9,7 +9,7 @@ use lib.ListN.{length, take, drop, length-drop, take-append-drop}
 use lib.Seq.{length-take-le, drop-append_seam}
 use Rattle.lines.specs.Lf.{within}
 use Rattle.text.specs.Utf8Form.{seq_len, begins, grammar, scan, utf8_of}
-use Rattle.text.specs.declared.Utf8.TheVariants.{Valid}
+use Rattle.std.specs.declared.result.Result.TheVariants.{Ok, Err}
 use Rattle.text.specs.Trim.{white_char, trim_end, trim_of}
 use Rattle.text.proofs.Rows.{seq_len-fits}
 use Rattle.text.proofs.Scan.{first-bad, first_on}
@@ -23,12 +23,12 @@ scan-char [] t i e h = absurd (omega arith)
 scan-char (x ∷ ys) t i e h =
     first_on i (length ys) x (ys ++ t) (formed-append x ys (formed x ys e) t) ∙ ap (scan 0 (i + suc (length ys))) (drop-append_seam ys t)
 
-scan-chars : {cs : List (List ℕ)} → Chars cs → (i : ℕ) → scan 0 i (text cs) ≡ Valid
+scan-chars : {cs : List (List ℕ)} → Chars cs → (i : ℕ) → scan 0 i (text cs) ≡ Ok tt
 unfolding scan
 scan-chars none i = refl
 scan-chars (char {c} {cs} e h r) i = scan-char c (text cs) i e h ∙ scan-chars r (i + length c)
 
-pub valid-chars : {cs : List (List ℕ)} → Chars cs → utf8_of (text cs) ≡ Valid
+pub valid-chars : {cs : List (List ℕ)} → Chars cs → utf8_of (text cs) ≡ Ok tt
 unfolding utf8_of
 valid-chars r = scan-chars r 0
 
@@ -59,13 +59,13 @@ cut x k xs e = go (led 0 x grammar tt)
             rw (← l) (f (take (length g) xs) ∙ ap (λ (b : Bool). cond b (suc (length g)) 0) (begins-take g xs q))
         at false q = let z : 0 ≡ suc k = sym (f xs ∙ ap (λ (b : Bool). cond b (suc (length g)) 0) q) ∙ e in absurd (omega arith)
 
-parts : (m : ℕ) (l : List ℕ) (i : ℕ) → length l ≤ m → scan 0 i l ≡ Valid → (cs : List (List ℕ)) × Chars cs × (text cs ≡ l)
+parts : (m : ℕ) (l : List ℕ) (i : ℕ) → length l ≤ m → scan 0 i l ≡ Ok tt → (cs : List (List ℕ)) × Chars cs × (text cs ≡ l)
 parts zero [] i h v = ([], none, refl)
 parts zero (x ∷ xs) i h v = absurd (omega arith)
 parts (suc m) [] i h v = ([], none, refl)
 parts (suc m) (x ∷ xs) i h v = go (seq_len (x ∷ xs)) refl (λ l j. parts m l j)
   where
-    go : (n : ℕ) → seq_len (x ∷ xs) ≡ n → ((l : List ℕ) (i : ℕ) → length l ≤ m → scan 0 i l ≡ Valid → (cs : List (List ℕ)) × Chars cs × (text cs ≡ l)) → (cs : List (List ℕ)) × Chars cs × (text cs ≡ x ∷ xs)
+    go : (n : ℕ) → seq_len (x ∷ xs) ≡ n → ((l : List ℕ) (i : ℕ) → length l ≤ m → scan 0 i l ≡ Ok tt → (cs : List (List ℕ)) × Chars cs × (text cs ≡ l)) → (cs : List (List ℕ)) × Chars cs × (text cs ≡ x ∷ xs)
     go zero e f = let b = first-bad i x xs e in let z : ◌≡◌ {A = ℕ} 0 1 = cc in absurd (omega arith)
     go (suc k) e f =
         let b = seq_len-fits (x ∷ xs) in
@@ -77,7 +77,7 @@ parts (suc m) (x ∷ xs) i h v = go (seq_len (x ∷ xs)) refl (λ l j. parts m l
           ap (λ (t : List ℕ). x ∷ (take k xs ++ t)) r.2 ∙ ap (λ (t : List ℕ). x ∷ t) (take-append-drop k xs),
         )
 
-pub chars-of : (l : List ℕ) → utf8_of l ≡ Valid → (cs : List (List ℕ)) × Chars cs × (text cs ≡ l)
+pub chars-of : (l : List ℕ) → utf8_of l ≡ Ok tt → (cs : List (List ℕ)) × Chars cs × (text cs ≡ l)
 unfolding utf8_of
 chars-of l v = parts (length l) l 0 (omega arith) v
 

@@ -14,7 +14,7 @@ use Rattle.lines.specs.Lf.{all}
 use Rattle.lines.proofs.Tests.{and_left, and_right, is-in}
 use Rattle.text.specs.Utf8Form.{seq_len, scan}
 use Rattle.text.specs.Inner.Utf8Form.{is_ascii}
-use Rattle.text.specs.declared.Utf8.TheVariants.{Valid, Bad}
+use Rattle.std.specs.declared.result.Result.TheVariants.{Ok, Err}
 
 pub scan-skip : (k i : ℕ) (l : List ℕ) → scan k i l ≡ scan 0 (i + k) (drop k l)
 unfolding scan
@@ -22,7 +22,7 @@ scan-skip zero i l = ap (λ (n : ℕ). scan 0 n l) (sym (add-zero i))
 scan-skip (suc k) i [] = refl
 scan-skip (suc k) i (x ∷ xs) = scan-skip k (suc i) xs ∙ ap (λ (n : ℕ). scan 0 n (drop k xs)) (omega arith)
 
-pub first-bad : (i x : ℕ) (xs : List ℕ) → seq_len (x ∷ xs) ≡ 0 → scan 0 i (x ∷ xs) ≡ Bad i
+pub first-bad : (i x : ℕ) (xs : List ℕ) → seq_len (x ∷ xs) ≡ 0 → scan 0 i (x ∷ xs) ≡ Err i
 unfolding scan
 first-bad i x xs e = rw e
 
@@ -31,7 +31,7 @@ unfolding scan
 first_on i k x xs e = rw e (scan-skip k (suc i) xs ∙ ap (λ (n : ℕ). scan 0 n (drop k xs)) (omega arith))
 
 module _ (t : List ℕ) (i : ℕ) (h : i < length t) where
-  pub scan-bad : seq_len (drop i t) ≡ 0 → scan 0 i (drop i t) ≡ Bad i
+  pub scan-bad : seq_len (drop i t) ≡ 0 → scan 0 i (drop i t) ≡ Err i
   scan-bad e = rw (drop-cons t i 0 h) (first-bad i (get_or t i 0) (drop (suc i) t) (rw (drop-cons t i 0 h) at e))
 
   pub scan-on : (n : ℕ) → seq_len (drop i t) ≡ n → (n ≡ 0 → ⊥) → scan 0 i (drop i t) ≡ scan 0 (i + n) (drop (i + n) t)
@@ -48,7 +48,7 @@ unfolding seq_len
 ascii-seq x xs h = rw (is-in 0x00 0x7F x (omega arith) (let l = ltb-true x 0x80 h in omega arith))
 
 -- a text of ASCII is UTF-8
-pub scan-ascii : (i : ℕ) (l : List ℕ) → all is_ascii l ≡ true → scan 0 i l ≡ Valid
+pub scan-ascii : (i : ℕ) (l : List ℕ) → all is_ascii l ≡ true → scan 0 i l ≡ Ok tt
 unfolding scan
 scan-ascii i [] h = refl
 scan-ascii i (x ∷ xs) h = rw (ascii-seq x xs (and_left (is_ascii x) (all is_ascii xs) h)) (scan-ascii (suc i) xs (and_right (is_ascii x) (all is_ascii xs) h))

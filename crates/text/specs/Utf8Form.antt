@@ -1,8 +1,8 @@
 -- Well-formed UTF-8, from the grammar of RFC 3629, section 4.
 use Rattle.std.specs.Prelude.{ℕ, zero, suc, Bool, true, false, cond, ◌&&◌, List, [], ◌∷◌, length}
 use Rattle.lines.specs.Lf.{within}
-use Rattle.text.specs.declared.Utf8.{Utf8}
-use Rattle.text.specs.declared.Utf8.TheVariants.{Valid, Bad}
+use Rattle.std.specs.declared.result.Result.{Result}
+use Rattle.std.specs.declared.result.Result.TheVariants.{Ok, Err}
 
 -- the list begins with a byte in each of the ranges, in order
 abbrev pub begins : List (ℕ × ℕ) → List ℕ → Bool
@@ -33,14 +33,18 @@ seq_by (g ∷ gs) l = cond (begins g l) (length g) (seq_by gs l)
 unfoldable pub seq_len : List ℕ → ℕ
 seq_len l = seq_by grammar l
 
+-- what a text is: well-formed, or the place of the first byte of its first bad sequence
+abbrev pub Utf8 : Type 0
+Utf8 = Result (Unit {0}) ℕ
+
 -- no sequence begins here: bad; else what the rest is, of a sequence with k more bytes
 abbrev pub bad_or : ℕ → ℕ → (ℕ → Utf8) → Utf8
-bad_or zero i rest = Bad i
+bad_or zero i rest = Err i
 bad_or (suc k) i rest = rest k
 
 -- the first byte that begins no well-formed sequence: k more bytes belong to a sequence that has begun, and i is the list's place in the text
 unfoldable pub scan : ℕ → ℕ → List ℕ → Utf8
-scan k i [] = Valid
+scan k i [] = Ok tt
 scan (suc k) i (x ∷ xs) = scan k (suc i) xs
 scan zero i (x ∷ xs) = bad_or (seq_len (x ∷ xs)) i (λ k. scan k (suc i) xs)
 

@@ -83,13 +83,6 @@ pub fn is_white(c: u32) -> bool
     }
 }
 
-// What a text is: UTF-8 by RFC 3629, or the place of the first byte of its first bad sequence.
-#[derive(Clone, Copy)]
-pub enum Utf8 {
-    Valid,
-    Bad(usize),
-}
-
 fn between(x: u32, lo: u32, hi: u32) -> bool
     ensures { result ≡ within lo hi x }
 {
@@ -165,8 +158,8 @@ pub fn seq_at(s: &[u8], i: usize) -> usize
     seq_len(lead, byte(s, i + 1), byte(s, i + 2), byte(s, i + 3))
 }
 
-// Whether a text is UTF-8, and where it is not, sequence by sequence.
-fn scan_utf8(text: &[u8]) -> Utf8
+// Whether a text is UTF-8 by RFC 3629, or the place of the first byte of its first bad sequence, sequence by sequence.
+fn scan_utf8(text: &[u8]) -> Result<(), usize>
     ensures { result ≡ utf8_of text.now }
 {
     let mut i = 0;
@@ -174,19 +167,19 @@ fn scan_utf8(text: &[u8]) -> Utf8
     while i < text.len() {
         let n = seq_at(text, i);
         if n == 0 {
-            return Utf8::Bad(i);
+            return Err(i);
         }
         i += n;
     }
-    Utf8::Valid
+    Ok(())
 }
 
 // The same: a text of ASCII is.
-pub fn check_utf8(text: &[u8]) -> Utf8
+pub fn check_utf8(text: &[u8]) -> Result<(), usize>
     ensures { result ≡ utf8_of text.now }
 {
     if text.is_ascii() {
-        return Utf8::Valid;
+        return Ok(());
     }
     scan_utf8(text)
 }

@@ -9,8 +9,8 @@ returns-then-text-m c = text-long c.args.m c.args.form c.args.text.now (Ok 0) _ 
 pub returns-then-short : goal.returns-then-short
 returns-then-short c = work-short c.args.m c.args.form c.args.text.now (Ok 0) _ c.if-text-m.false c.if-short.true
 
-pub returns-in-Bad : goal.returns-in-Bad
-returns-in-Bad c = text-bad c.args.m c.args.form c.args.text.now (Ok 0) _ c.if-text-m.false c.if-short.false c.by_flaw.ensures c.flaw_at.ensures (sym c.check_utf8.ensures ∙ c.in-Bad.is)
+pub returns-in-Err : goal.returns-in-Err
+returns-in-Err c = text-bad c.args.m c.args.form c.args.text.now (Ok 0) _ c.if-text-m.false c.if-short.false c.by_flaw.ensures c.flaw_at.ensures (sym c.check_utf8.ensures ∙ c.in-Err.is)
 
-pub returns-in-Valid : goal.returns-in-Valid
-returns-in-Valid c = c.refused_lines.ensures ∙ text-read c.args.m c.args.form c.args.text.now (Ok 0) _ c.if-text-m.false c.if-short.false (sym c.check_utf8.ensures ∙ c.in-Valid.is)
+pub returns-in-Ok : goal.returns-in-Ok
+returns-in-Ok c = c.refused_lines.ensures ∙ text-read c.args.m c.args.form c.args.text.now (Ok 0) _ c.if-text-m.false c.if-short.false (sym c.check_utf8.ensures ∙ c.in-Ok.is)

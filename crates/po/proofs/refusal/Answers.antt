@@ -9,14 +9,14 @@ returns-then-name-eq0 c = let a = c.args in let f = c.file_name-n in name-empty 
 pub returns-then-n-name : goal.returns-then-n-name
 returns-then-n-name c = let a = c.args in let f = c.file_name-n in name-bad a.name.now a.t.now (po.Done 0) f.result f.ensures c.if-n-name.true
 
-pub returns-in-Bad : goal.returns-in-Bad
-returns-in-Bad c = let a = c.args in let f = c.file_name-n in text-bad a.name.now a.t.now (po.Done 0) f.result f.ensures c.if-name-eq0.false c.if-n-name.false _ (sym c.check_utf8.ensures ∙ c.in-Bad.is)
+pub returns-in-Err : goal.returns-in-Err
+returns-in-Err c = let a = c.args in let f = c.file_name-n in text-bad a.name.now a.t.now (po.Done 0) f.result f.ensures c.if-name-eq0.false c.if-n-name.false _ (sym c.check_utf8.ensures ∙ c.in-Err.is)
 
 pub returns-in-None : goal.returns-in-None
-returns-in-None c = let a = c.args in let f = c.file_name-n in text-good a.name.now a.t.now (po.Done 0) f.result f.ensures c.if-name-eq0.false c.if-n-name.false _ (sym c.check_utf8.ensures ∙ c.in-Valid.is) (sym c.first_flaw.ensures ∙ c.in-None.is)
+returns-in-None c = let a = c.args in let f = c.file_name-n in text-good a.name.now a.t.now (po.Done 0) f.result f.ensures c.if-name-eq0.false c.if-n-name.false _ (sym c.check_utf8.ensures ∙ c.in-Ok.is) (sym c.first_flaw.ensures ∙ c.in-None.is)
 
 pub returns-in-Escape : goal.returns-in-Escape
-returns-in-Escape c = let a = c.args in let f = c.file_name-n in text-good a.name.now a.t.now (po.Done 0) f.result f.ensures c.if-name-eq0.false c.if-n-name.false _ (sym c.check_utf8.ensures ∙ c.in-Valid.is) (sym c.first_flaw.ensures ∙ c.in-Escape.is)
+returns-in-Escape c = let a = c.args in let f = c.file_name-n in text-good a.name.now a.t.now (po.Done 0) f.result f.ensures c.if-name-eq0.false c.if-n-name.false _ (sym c.check_utf8.ensures ∙ c.in-Ok.is) (sym c.first_flaw.ensures ∙ c.in-Escape.is)
 
 pub returns-in-Unclosed : goal.returns-in-Unclosed
-returns-in-Unclosed c = let a = c.args in let f = c.file_name-n in text-good a.name.now a.t.now (po.Done 0) f.result f.ensures c.if-name-eq0.false c.if-n-name.false _ (sym c.check_utf8.ensures ∙ c.in-Valid.is) (sym c.first_flaw.ensures ∙ c.in-Unclosed.is)
+returns-in-Unclosed c = let a = c.args in let f = c.file_name-n in text-good a.name.now a.t.now (po.Done 0) f.result f.ensures c.if-name-eq0.false c.if-n-name.false _ (sym c.check_utf8.ensures ∙ c.in-Ok.is) (sym c.first_flaw.ensures ∙ c.in-Unclosed.is)

@@ -1,10 +1,10 @@
 use mathlib.Core.Path.{sym, ap, ◌∙◌}
-use Rattle.text.specs.declared.Utf8.{Utf8}
+use Rattle.text.specs.Utf8Form.{Utf8}
 use Rattle.po.specs.Reader.{is_valid}
 use Rattle.po.proofs.reader.is_utf8.Goals as goal
 
-pub returns-in-Valid : goal.returns-in-Valid
-returns-in-Valid c = sym (ap (λ (u : Utf8). is_valid u) (sym c.check_utf8.ensures ∙ c.in-Valid.is))
+pub returns-in-Ok : goal.returns-in-Ok
+returns-in-Ok c = sym (ap (λ (u : Utf8). is_valid u) (sym c.check_utf8.ensures ∙ c.in-Ok.is))
 
-pub returns-in-Bad : goal.returns-in-Bad
-returns-in-Bad c = sym (ap (λ (u : Utf8). is_valid u) (sym c.check_utf8.ensures ∙ c.in-Bad.is))
+pub returns-in-Err : goal.returns-in-Err
+returns-in-Err c = sym (ap (λ (u : Utf8). is_valid u) (sym c.check_utf8.ensures ∙ c.in-Err.is))
