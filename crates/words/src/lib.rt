@@ -13,28 +13,24 @@ ghost use Rattle.words.specs.Hits.{reg_hit, after_new, as_target, glue_left, glu
 fn run_start(s: &[u8], i: usize) -> usize
     ensures { result ≡ i + gap_len (drop i s.now) }
 {
-    let mut j = i;
-    while j < s.len() {
+    for j in i..s.len() {
         if text::is_name_byte(s[j]) {
             return j;
         }
-        j += 1;
     }
-    j
+    i.max(s.len())
 }
 
 // The end of the run of name bytes that stands at a place.
 pub fn run_end(s: &[u8], i: usize) -> usize
     ensures { result ≡ i + run_len (drop i s.now) }
 {
-    let mut j = i;
-    while j < s.len() {
+    for j in i..s.len() {
         if !text::is_name_byte(s[j]) {
             return j;
         }
-        j += 1;
     }
-    j
+    i.max(s.len())
 }
 
 // Whether a run that begins with `r` stands at the place j, where a run may begin at i.
@@ -54,14 +50,12 @@ fn begins_reg(s: &[u8], i: usize, j: usize) -> bool
 pub fn reg_start(s: &[u8], i: usize) -> usize
     ensures { result ≡ i + reg_gap false (drop i s.now) }
 {
-    let mut j = i;
-    while j < s.len() {
+    for j in i..s.len() {
         if begins_reg(s, i, j) {
             return j;
         }
-        j += 1;
     }
-    j
+    i.max(s.len())
 }
 
 // One for a run that passes its test, else none.
@@ -77,6 +71,7 @@ pub fn count_reg(s: &[u8], reg: names::Register) -> usize
 {
     let mut n = 0;
     let mut i = reg_start(s, 0);
+    // Kept: the place moves to the next run that begins with `r`.
     while i < s.len() {
         let e = run_end(s, i);
         n += one_if(names::names_reg(&s[i..e], reg));
@@ -133,6 +128,7 @@ fn next_short(s: &[u8], i: usize, d: u8) -> usize
         return i;
     }
     let mut j = lines::find_byte(s, i + 1, d);
+    // Kept: the place moves to the next digit `d`.
     while j < s.len() {
         if short_at(s, i, j) {
             return j - 1;
@@ -147,6 +143,7 @@ fn next_long(s: &[u8], i: usize, reg: names::Register) -> usize
     ensures { NextRun (λ (w : List ℕ). same w (reg_text reg.0)) s.now i result }
 {
     let mut j = reg_start(s, i);
+    // Kept: the place moves to the next run that begins with `r`.
     while j < s.len() {
         let e = run_end(s, j);
         if names::is_reg_text(&s[j..e], reg) {
