@@ -17,7 +17,6 @@ use Rattle.text.proofs.Rows.{seq_len-fits}
 use Rattle.std.specs.declared.option.Option.{Option}
 use Rattle.std.specs.declared.option.Option.TheVariants.{Some, None}
 use Rattle.lexical.proofs.ByteLaws.{first-is}
-use Rattle.lexical.proofs.EndLaws.{cons-at}
 use Rattle.lexical.specs.Idents.{char_len, chars_go, name_low, digit_char, digits, no_word, flush_word, joins, words_go, words_in}
 use Rattle.lexical.specs.Inner.Idents.{word_from, next_word, words_by}
 

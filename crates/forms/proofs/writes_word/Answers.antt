@@ -1,4 +1,4 @@
-use Rattle.std.proofs.Common.{true, false, sym, ◌∙◌, arith}
+use Rattle.std.proofs.Common.{true, false, sym, ◌∙◌}
 use Rattle.lines.proofs.Tests.{so}
 use Rattle.forms.proofs.BreaksLaws.{writes_at, writes_end, writes-skip}
 use Rattle.forms.proofs.writes_word.Goals.{then-line-i+else-writes_here, else-line-i}

@@ -1,5 +1,4 @@
-use Rattle.std.proofs.Common.{◌≡◌, ◌+◌, ℕ, Bool, get_or, drop, sym, ap, ◌∙◌}
-use Rattle.lexical.specs.Joined.{opens_comment, opens_template}
+use Rattle.std.proofs.Common.{sym, ◌∙◌}
 use Rattle.lexical.proofs.EachLaws.{step_of, goes, stops, front}
 use Rattle.lexical.proofs.JoinedLaws.{OpenInv, open-start, open-comment, open-template, open_next, open-end}
 use Rattle.lexical.proofs.open_tokens.Goals as goal

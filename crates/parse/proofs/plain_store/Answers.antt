@@ -2,7 +2,7 @@ use native.Mathlib.Omega.{arith}
 use mathlib.Core.Path.{sym, ◌∙◌, ap}
 use mathlib.Core.Bool.{Bool, cond}
 use Rattle.names.specs.Names.{reg_of}
-use Rattle.std.specs.declared.option.Option.TheVariants.{Some, None}
+use Rattle.std.specs.declared.option.Option.TheVariants.{None}
 use Rattle.lines.specs.Lf.{part}
 use Rattle.parse.proofs.PlainLine.{value_room}
 use Rattle.parse.proofs.plain_store.Goals as goal

@@ -1,5 +1,5 @@
 -- What inner functions and laws ask beside Parse: no promise of an entry hangs on it. Assumes nothing.
-use Rattle.std.specs.Prelude.{ℕ, suc, ◌+◌, ◌-◌, ◌<◌, ◌≡◌, Bool, true, cond, ◌&&◌, ◌||◌, List, [], ◌∷◌, length, take, drop, get_or, eqb, leb, ltb}
+use Rattle.std.specs.Prelude.{ℕ, suc, ◌+◌, ◌-◌, ◌<◌, ◌≡◌, Bool, true, cond, ◌&&◌, List, [], ◌∷◌, length, take, drop, get_or, eqb, leb, ltb}
 use Prim.Native.Char.{code}
 use Rattle.lines.specs.Lf.{part, up_to}
 use Rattle.text.specs.Trim.{trim_of}

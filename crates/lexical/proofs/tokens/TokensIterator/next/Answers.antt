@@ -1,4 +1,4 @@
-use Rattle.std.proofs.Common.{◌≡◌, ◌<◌, ap, ◌∙◌, arith}
+use Rattle.std.proofs.Common.{ap, arith}
 use Rattle.lexical.specs.declared.Step.{Step}
 use Rattle.lexical.proofs.LexLaws.{step-on}
 use Rattle.lexical.proofs.tokens.TokensIterator.next.Goals as goal
