@@ -1,4 +1,4 @@
-use Rattle.std.proofs.Common.{◌≡◌, ℕ, ◌+◌, ◌-◌, take, length, sym, ap, ◌∙◌, arith}
+use Rattle.std.proofs.Common.{◌≡◌, ℕ, ◌+◌, ◌-◌, take, sym, ap, ◌∙◌, arith}
 use lib.Seq.{take-length}
 use Rattle.expr.proofs.SpaceLaws.{end-stop, end_more, end-end}
 use Rattle.expr.proofs.space_to.Goals as goal

@@ -1,6 +1,5 @@
 use mathlib.Core.Path.{◌≡◌}
-use Prim.Native.Nat.{◌≤◌}
-use lib.ListN.{length, take}
+use lib.ListN.{take}
 use Rattle.expr.specs.Pure.{space_end}
 use Rattle.expr.proofs.space_to.Given as goal
 
