@@ -1,5 +1,5 @@
 -- Laws of the numbers of a text. Assumes nothing.
-use Rattle.std.proofs.Common.{◌≡◌, ℕ, ◌+◌, ◌-◌, ◌*◌, ◌%◌, ◌^◌, ◌<◌, ◌≤◌, max, Bool, true, false, cond, ◌&&◌, ◌||◌, ltb, List, [], ◌∷◌, length, get_or, drop, sym, refl, ap, ◌∙◌, add-one, arith, length-drop, length-set, drop_of_length-le, get_or-drop, drop-cons, ltb-false, ltb-true, le-ltb, lt-ltb}
+use Rattle.std.proofs.Common.{◌≡◌, ℕ, ◌+◌, ◌-◌, ◌*◌, ◌%◌, ◌^◌, ◌<◌, ◌≤◌, min, max, Bool, true, false, cond, ◌&&◌, ◌||◌, ltb, List, [], ◌∷◌, length, get_or, drop, sym, refl, ap, ◌∙◌, add-one, arith, length-drop, length-set, drop_of_length-le, get_or-drop, drop-cons, ltb-false, ltb-true, le-ltb, lt-ltb}
 use Rattle.lines.proofs.Tests.{or-false, and-false, is-in, is_below, is-above}
 use Rattle.names.specs.Names.{is_digit}
 use Rattle.slots.specs.Inner.Slots.{spot, claimed}
@@ -64,11 +64,18 @@ module _ (t : List ℕ) (i m : ℕ) where
     unfolding has_long
     long-here = rw (e, add-one i, drop-cons t i 0 h)
 
-    pub long-new : x < m → ltb x 10 || has_long (drop (i + 1) t) ≡ ltb m 10 || has_long (drop i t)
+    long-new : x < m → ltb x 10 || has_long (drop (i + 1) t) ≡ ltb m 10 || has_long (drop i t)
     long-new l = sym (ap (λ (b : Bool). ltb m 10 || b) long-here ∙ least-new x m (has_long (drop (i + 1) t)) l)
 
-    pub long-old : m ≤ x → ltb m 10 || has_long (drop (i + 1) t) ≡ ltb m 10 || has_long (drop i t)
+    long-old : m ≤ x → ltb m 10 || has_long (drop (i + 1) t) ≡ ltb m 10 || has_long (drop i t)
     long-old l = sym (ap (λ (b : Bool). ltb m 10 || b) long-here ∙ least-old x m (has_long (drop (i + 1) t)) l)
+
+    pub long-least : (r : ℕ) → r ≡ min m x → ltb r 10 || has_long (drop (i + 1) t) ≡ ltb m 10 || has_long (drop i t)
+    long-least r q = go (ltb x m) refl
+      where
+        go : (b : Bool) → ltb x m ≡ b → ltb r 10 || has_long (drop (i + 1) t) ≡ ltb m 10 || has_long (drop i t)
+        go true k = let l = ltb-true x m k in let z : r ≡ x = omega arith in rw z (long-new l)
+        go false k = let l = ltb-false x m k in let z : r ≡ m = omega arith in rw z (long-old l)
 
   -- three bytes are too few
   pub long-none : length t ≤ i + 3 → has_long (drop i t) ≡ false

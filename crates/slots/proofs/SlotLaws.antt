@@ -29,6 +29,11 @@ module _ (own : List ℕ) (i v : ℕ) where
   spot-none zero h = refl
   spot-none (suc k) h = omega arith
 
+-- none is left to look at, or the place is past the owners
+pub spot-out : (own : List ℕ) (i v k : ℕ) → (0 < k → length own ≤ i) → spot_go k own i v ≡ length own
+spot-out own i v zero f = spot-none own i v zero (omega arith)
+spot-out own i v (suc k) f = spot_past own i v (suc k) (f (omega arith))
+
 pub spot-most : (k : ℕ) (own : List ℕ) (i v : ℕ) → spot_go k own i v ≤ length own
 unfolding spot_go
 spot-most zero own i v = omega arith

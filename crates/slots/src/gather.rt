@@ -6,27 +6,11 @@ ghost use Rattle.slots.specs.Inner.Gather.{four_digits, has_long, grown, entered
 // Numbers of more digits than this grow no more.
 const LARGE: usize = 1000000000000000000;
 
-fn is_digit(b: u8) -> bool
-    ensures { result ≡ is_digit b }
-{
-    (b'0' <= b) & (b <= b'9')
-}
-
-// The greater of two bytes.
-fn higher(a: u8, b: u8) -> u8
-    ensures { result ≡ max a b }
-{
-    if a <= b {
-        return b;
-    }
-    a
-}
-
 // How far a byte stands above `0`: a digit less than ten, and no other byte.
 fn above_zero(b: u8) -> u8
     ensures { nat_lt result 10 ≡ is_digit b }
 {
-    std::num::wrapping_sub_u8(b, b'0')
+    b.wrapping_sub(b'0')
 }
 
 // How far the four bytes at a place stand above `0` at most.
@@ -34,9 +18,9 @@ fn four_above(s: &[u8], i: usize) -> u8
     requires { i + 4 ≤ length s.now }
     ensures { nat_lt result 10 ≡ four_digits (drop i s.now) }
 {
-    let front = higher(above_zero(s[i]), above_zero(s[i + 1]));
-    let back = higher(above_zero(s[i + 2]), above_zero(s[i + 3]));
-    higher(front, back)
+    let front = above_zero(s[i]).max(above_zero(s[i + 1]));
+    let back = above_zero(s[i + 2]).max(above_zero(s[i + 3]));
+    front.max(back)
 }
 
 // Whether a text has a number of four digits: the least of what `four_above` says of its places tells. It goes on to the end, so that the
@@ -48,16 +32,9 @@ pub fn has_long(text: &[u8]) -> bool
         return false;
     }
     let end = text.len() - 3;
-    let mut least = 255;
-    let mut i = 0;
-    while i < end {
-        let x = four_above(text, i);
-        if x < least {
-            least = x;
-            i += 1;
-        } else {
-            i += 1;
-        }
+    let mut least = u8::MAX;
+    for i in 0..end {
+        least = least.min(four_above(text, i));
     }
     least < 10
 }
@@ -94,21 +71,15 @@ fn is_mark(b: u8) -> bool
 fn enter_all(text: &[u8], low: usize, own: &mut [usize])
     ensures { own.new ≡ entered_all low false 0 text.now own.old }
 {
-    let mut i = 0;
     let mut marked = false;
     let mut v = 0;
-    while i < text.len() {
-        let b = text[i];
-        if !is_digit(b) {
+    for &b in text {
+        if !b.is_ascii_digit() {
             enter(v, low, own);
             marked = is_mark(b);
             v = 0;
-            i += 1;
         } else if marked {
             v = grow(v, b);
-            i += 1;
-        } else {
-            i += 1;
         }
     }
     enter(v, low, own);

@@ -16,18 +16,13 @@ fn spot(v: usize, own: &[usize]) -> usize
     if n == 0 {
         return 0;
     }
-    let mut i = v % n;
-    let mut k = PROBES;
-    while 0 < k {
-        if n <= i {
-            return n;
-        }
-        let x = own[i];
+    let home = v % n;
+    let most = PROBES.min(n - home);
+    for k in 0..most {
+        let x = own[home + k];
         if (x == v) | (x == 0) {
-            return i;
+            return home + k;
         }
-        i += 1;
-        k -= 1;
     }
     n
 }
@@ -50,10 +45,7 @@ pub fn seek(v: usize, own: &[usize]) -> usize
 pub fn low_of(n: usize, h: usize) -> usize
     ensures { result ≡ n - h }
 {
-    if n <= h {
-        return 0;
-    }
-    n - h
+    n.saturating_sub(h)
 }
 
 // The place of a number in a table of n entries; past its end where it has none.
@@ -89,8 +81,5 @@ pub fn claim(v: usize, own: &mut [usize])
 pub fn shorter(a: usize, b: usize) -> usize
     ensures { result ≡ min a b }
 {
-    if a <= b {
-        return a;
-    }
-    b
+    a.min(b)
 }
