@@ -43,36 +43,6 @@ use Rattle.bind.specs.Inner.Steps.{above_of, line_of, below_of, use_row, stores_
 use Rattle.bind.proofs.CountLaws.{decl-cons, store-cons, blank-stores}
 use Rattle.bind.proofs.SiteLaws.{bound-lt}
 
--- ---- `clear`
-
-pub record ClearInv (m₀ m : List ℕ) (n k : ℕ) : Type 0 where
-  pub k≤ : k ≤ n
-  pub writing : Writing 0 (replicate n 0) (replicate (n - k) 0) m₀ m k
-
-pub clear-start : (m : List ℕ) (n : ℕ) → n ≤ length m → ClearInv m m n 0
-clear-start m n h =
-    let z : n ≡ n - 0 = omega arith in
-    record { k≤ = omega arith; writing = writing-as (ap (λ (a : ℕ). replicate a 0) z) (writing_start 0 (replicate n 0) m (omega (arith, length-replicate {A = ℕ} n 0))) }
-
-module _ {m₀ m : List ℕ} {n k : ℕ} (h : ClearInv m₀ m n k) where
-  clear_next : k < n → Writing 0 (replicate n 0) (0 ∷ replicate (n - (k + 1)) 0) m₀ m k
-  clear_next l = let z : n - k ≡ suc (n - (k + 1)) = omega arith in writing-as (ap (λ (a : ℕ). replicate a 0) z) h.writing
-
-  pub clear_in : k < n → k < length m
-  clear_in l = let r = writing-room (clear_next l) in omega arith
-
-  pub clear-on : k < n → ClearInv m₀ (set m k 0) n (k + 1)
-  clear-on l = record { k≤ = omega arith; writing = entry-on 0 (clear_next l) }
-
-  pub clear-length : length m ≡ length m₀
-  clear-length = writing-length h.writing
-
-  pub clear-end : n ≤ k → Filled m₀ (replicate n 0) m n
-  clear-end l =
-      let z : n - k ≡ 0 = omega (arith, h.k≤) in
-      let e : k ≡ n = omega (arith, h.k≤) in
-      subst (λ (a : ℕ). Filled m₀ (replicate n 0) m a) e (entry-end (ap (λ (a : ℕ). replicate a 0) z) h.writing)
-
 -- ---- the lines of the region above a line, in either order
 
 pub record Like (us ls : List (List ℕ)) : Type 0 where

@@ -189,13 +189,10 @@ fn read_lines(
     ensures marked { seen.new ≡ seen_lines own.now m (lines_of text.now) seen.old }
     ensures again { first.new ≡ again_lines own.now m b (lines_of text.now) seen.old (use_lines own.now b n (lines_of text.now) first.old) }
 {
-    let mut i = 0;
     let mut k = n;
-    while i < text.len() {
-        let e = lines::find_byte(text, i, 10);
-        read_line(&text[i..e], own, m, b, k + 1, seen, first);
+    for line in lines::each::each(text) {
+        read_line(line.bytes, own, m, b, k + 1, seen, first);
         k += 1;
-        i = lines::after(text, e);
     }
 }
 

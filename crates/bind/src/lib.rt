@@ -90,12 +90,9 @@ fn count_decls(text: &[u8], reg: names::Register, n: usize) -> usize
     requires { n ≤ 2 }
     ensures { result ≡ min (n + decl_count reg.0 (lines_of text.now)) 2 }
 {
-    let mut i = 0;
     let mut m = n;
-    while i < text.len() {
-        let e = lines::find_byte(text, i, 10);
-        m = line_decls(lines::cut(text, i, e), reg, m);
-        i = lines::after(text, e);
+    for line in lines::each::each(text) {
+        m = line_decls(line.bytes, reg, m);
     }
     m
 }
@@ -116,13 +113,10 @@ fn count_stores(text: &[u8], reg: names::Register, n: usize) -> usize
     requires { n ≤ 2 }
     ensures { result ≡ min (n + store_count reg.0 (lines_of text.now)) 2 }
 {
-    let mut i = 0;
     let mut m = n;
-    while i < text.len() {
-        let e = lines::find_byte(text, i, 10);
-        let s = stores_reg(lines::cut(text, i, e), reg);
+    for line in lines::each::each(text) {
+        let s = stores_reg(line.bytes, reg);
         m = one_more(m, s);
-        i = lines::after(text, e);
     }
     m
 }
@@ -139,17 +133,20 @@ fn first_use(text: &[u8], reg: names::Register) -> First
     ensures { (result.row ≡ use_row reg.0 (lines_of text.now))
         × (lines_of (drop result.place text.now) ≡ drop result.row (lines_of text.now)) }
 {
-    let mut i = 0;
     let mut k = 0;
-    while i < text.len() {
-        let e = lines::find_byte(text, i, 10);
-        if reading::line_uses(lines::cut(text, i, e), reg) {
-            return First { row: k, place: i };
+    for line in lines::each::each(text) {
+        if reading::line_uses(line.bytes, reg) {
+            return First {
+                row: k,
+                place: line.from,
+            };
         }
         k += 1;
-        i = lines::after(text, e);
     }
-    First { row: k, place: i }
+    First {
+        row: k,
+        place: text.len(),
+    }
 }
 
 // Whether the lines above, a line, and those below declare a register once in all.
@@ -485,32 +482,18 @@ fn bind_line(
     p
 }
 
-// Makes the first `n` entries 0.
-fn clear(marks: &mut [u8], n: usize)
-    requires { n ≤ length marks.old }
-    ensures { Filled marks.old (replicate n 0) marks.new n }
-{
-    let mut k = 0;
-    while k < n {
-        marks[k] = 0;
-        k += 1;
-    }
-}
-
 // Where the first line begins that opens a region, of those from the `k`-th up to the `n`-th, or `len` where there is none; the `k`-th begins at `start`.
 fn stop_by(ends: &[usize], k: usize, n: usize, start: usize, len: usize) -> usize
     requires { n ≤ length ends.now }
     ensures { result ≡ stop_by ends.now len (n - k) k start }
 {
-    let mut i = k;
     let mut p = start;
-    while i < n {
+    for i in k..n {
         let x = ends[i];
         if x % 2 == 1 {
             return p;
         }
         p = x / 2 + 1;
-        i += 1;
     }
     len
 }
@@ -645,15 +628,13 @@ fn walk_lines(
     let mut c = place::Region(0);
     let mut s = first_site(stop_by(ends, 0, n, 0, text.len()));
     let mut past = 0;
-    let mut k = 0;
     let mut o = 0;
-    while k < n {
+    for k in 0..n {
         past = records::refill(ends, blocks, n, k, past, recs);
         let rec = records::get(recs, k + recs.len() - past);
         s = site_by(text, ends, rec, k, n, c, s);
         c = rec.region;
         o = walk_line(text, own, s, blocks, starts, seen, first, marks, out, o);
-        k += 1;
     }
     o
 }
@@ -749,7 +730,7 @@ pub fn bind_declarators(
     ensures ends { Filled ends.old (end_marks 0 (lines_of text.now)) ends.new (length (lines_of text.now)) }
 {
     let n = place::place_lines(text, reading::is_joined(mode), blocks, starts, up, ends);
-    clear(marks, n);
+    lines::wipe(marks, n);
     walk(text, own, ends, n, blocks, starts, seen, first, marks, out)
 }
 
@@ -758,12 +739,10 @@ pub fn moves_of(marks: &[u8], moves: &mut [usize]) -> usize
     requires { length marks.now ≤ length moves.old }
     ensures { Wrote moves.old 0 (note_moves marks.now) moves.new result }
 {
-    let mut i = 0;
-    while i < marks.len() {
+    for i in 0..marks.len() {
         moves[i] = move_at(marks[i]);
-        i += 1;
     }
-    i
+    marks.len()
 }
 
 // The move of a line by its mark.

@@ -22,6 +22,12 @@ filled-wrote {d} {xs} {d'} {r} f h =
     let z : length xs ≡ 0 + length xs = omega arith in
     record { fits = omega arith; place = f.place ∙ z; holds = f.holds ∙ ap (λ (n : ℕ). xs ++ drop n d) z }
 
+pub wrote-filled : {d xs d' : List ℕ} {r : ℕ} → Wrote d 0 xs d' r → Filled d xs d' r
+unfolding put_at
+wrote-filled {d} {xs} {d'} {r} w =
+    let z : 0 + length xs ≡ length xs = omega arith in
+    record { place = w.place ∙ z; holds = w.holds ∙ ap (λ (n : ℕ). xs ++ drop n d) z }
+
 pub filled-take : {d xs d' : List ℕ} {r : ℕ} → Filled d xs d' r → take r d' ≡ xs
 filled-take {d} {xs} {d'} {r} f = ap (take r) f.holds ∙ take_at xs (drop (length xs) d) r (sym f.place)
 

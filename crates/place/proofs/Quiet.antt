@@ -9,7 +9,7 @@ use lib.ListN.{length, get_or, take, drop, replicate, length-drop, drop_of_lengt
 use lib.Seq.{get_or-drop, take_all}
 use lib.Dec.{eqb, ltb}
 use Rattle.lines.specs.Lf.{part, up_to, count_of, ends_in, lines_of}
-use Rattle.lines.specs.Inner.Out.{put_at, Wrote}
+use Rattle.lines.specs.Inner.Out.{Wrote}
 use Rattle.lines.proofs.Tests.{no, and_left, and_right}
 use Rattle.lines.proofs.LfLaws.{lines-at, lines_end}
 use Rattle.text.specs.Trim.{from_of, end_white, to_of, trim_of}
@@ -18,7 +18,7 @@ use Rattle.place.specs.Inner.Paths.{flat_end}
 use Rattle.place.specs.Loops.{opens_loop, any_loop, loops_after, loops_go, inside_loop}
 use Rattle.place.specs.Inner.Loops.{starts_loop, some_loop, above_loop}
 use Rattle.place.specs.Inner.Fill.{Filled, flags_of}
-use Rattle.place.proofs.Fills.{filled-as}
+use Rattle.place.proofs.Fills.{filled-as, wrote-filled}
 
 -- ---- a line
 
@@ -149,9 +149,6 @@ module _ {t : List ℕ} {i k : ℕ} (h : AheadInv t i k) where
 -- ---- zeros for all lines
 
 pub quiet-filled : (t : List ℕ) {f f' : List ℕ} {n : ℕ} → false ≡ some_loop (lines_of t) → n ≡ above_loop (lines_of t) → Wrote f 0 (replicate n 0) f' n → Filled f (flags_of (inside_loop (lines_of t))) f' n
-unfolding put_at
 quiet-filled t {f} {f'} {n} s a w =
     let m : n ≡ length (lines_of t) = a ∙ above-all (lines_of t) (sym s) in
-    let xs : List ℕ = replicate n 0 in
-    let z : 0 + length xs ≡ length xs = omega arith in
-    filled-as (ap (λ (k : ℕ). replicate k 0) m ∙ sym (quiet (lines_of t) (sym s))) (record { place = w.place ∙ z; holds = w.holds ∙ ap (λ (k : ℕ). xs ++ drop k f) z })
+    filled-as (ap (λ (k : ℕ). replicate k 0) m ∙ sym (quiet (lines_of t) (sym s))) (wrote-filled w)

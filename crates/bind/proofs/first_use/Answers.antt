@@ -1,22 +1,23 @@
 use native.Mathlib.Omega.{arith}
-use mathlib.Core.Path.{refl, sym, ◌∙◌}
+use Prim.Native.Nat.{ℕ}
+use lib.ListN.{length, drop}
+use Rattle.lines.specs.Lf.{lines_of}
+use mathlib.Core.Path.{◌≡◌, ap, refl, sym, ◌∙◌}
 use Rattle.bind.proofs.CountLaws.{use-hit, use-on, use-end, rows_on}
+use Rattle.lines.proofs.EachLaws.{at-front, goes, stops}
 use Rattle.bind.proofs.first_use.Goals as goal
 
-pub loop-i-init : goal.loop-i-init
-loop-i-init c = (omega arith, (omega arith, (omega arith, refl)))
+pub loop-line-init : goal.loop-line-init
+loop-line-init c = let e = c.into_iter-line-iterator.ensures.into_iter_gives in let g = c.each-line-items.ensures in (at-front e g.text g.front, rw (e, g.front) ((omega arith, (omega arith, refl))))
 
 pub returns-then-line_uses : goal.returns-then-line_uses
-returns-then-line_uses c = let f = c.find_byte-e in
-    (omega (arith, c.loop-i.invariant.1.1.0, use-hit c.args.reg.0 c.args.text.now c.loop-i.i f.result _ c.loop-i-test.true f.ensures refl c.cut.result.now c.cut.ensures (sym c.line_uses.ensures ∙ c.if-line_uses.true)), c.loop-i.invariant.1.1.1)
+returns-then-line_uses c = let k = goes c.loop-line.invariant.0 c.in-Some.ensures.steps in (omega (arith, c.loop-line.invariant.1.1.0, use-hit c.args.reg.0 c.args.text.now c.loop-line.line-iterator.at c.in-Some.line.to _ k.here.starts k.here.to refl c.in-Some.line.bytes.now k.here.bytes (sym c.line_uses.ensures ∙ c.if-line_uses.true)), ap (λ (n : ℕ). lines_of (drop n c.args.text.now)) k.here.from ∙ c.loop-line.invariant.1.1.1)
 
-pub loop-i-smaller : goal.loop-i-smaller
-loop-i-smaller c = omega (arith, c.after-i.ensures, c.find_byte-e.ensures, c.loop-i-test.true)
-
-pub loop-i-preserved : goal.loop-i-preserved
-loop-i-preserved c = let f = c.find_byte-e in
-    let l = c.loop-i in
-    (omega (arith, c.after-i.ensures), (omega (arith, c.after-i.ensures, f.ensures, l.invariant.1.0), (omega (arith, l.invariant.1.1.0, use-on c.args.reg.0 c.args.text.now l.i f.result c.after-i.result c.loop-i-test.true f.ensures c.after-i.ensures c.cut.result.now c.cut.ensures (sym c.line_uses.ensures ∙ c.if-line_uses.false)), rows_on c.args.reg.0 c.args.text.now l.i f.result c.after-i.result c.loop-i-test.true f.ensures c.after-i.ensures c.cut.result.now c.cut.ensures l.k l.invariant.1.1.1)))
+pub loop-line-preserved : goal.loop-line-preserved
+loop-line-preserved c = let k = goes c.loop-line.invariant.0 c.in-Some.ensures.steps in (k.on, (omega (arith, k.here.next, k.here.to, c.loop-line.invariant.1.0), (omega (arith, c.loop-line.invariant.1.1.0, use-on c.args.reg.0 c.args.text.now c.loop-line.line-iterator.at c.in-Some.line.to _ k.here.starts k.here.to k.here.next c.in-Some.line.bytes.now k.here.bytes (sym c.line_uses.ensures ∙ c.if-line_uses.false)), rows_on c.args.reg.0 c.args.text.now c.loop-line.line-iterator.at c.in-Some.line.to _ k.here.starts k.here.to k.here.next c.in-Some.line.bytes.now k.here.bytes c.loop-line.k c.loop-line.invariant.1.1.1)))
 
 pub returns : goal.returns
-returns c = (omega (arith, c.loop-i.invariant.1.1.0, use-end c.args.reg.0 c.args.text.now c.loop-i.i c.loop-i-test.false), c.loop-i.invariant.1.1.1)
+returns c =
+    let w = stops c.loop-line.invariant.0 c.in-None.ensures.steps in
+    let e : length c.args.text.now ≡ c.loop-line.line-iterator.at = omega (arith, w, c.loop-line.invariant.0.at≤) in
+    (omega (arith, c.loop-line.invariant.1.1.0, use-end c.args.reg.0 c.args.text.now c.loop-line.line-iterator.at w), ap (λ (n : ℕ). lines_of (drop n c.args.text.now)) e ∙ c.loop-line.invariant.1.1.1)

@@ -1,11 +1,6 @@
-use Prim.Native.Nat.{◌-◌}
-use lib.ListN.{length}
 use Rattle.lines.proofs.OutLaws.{PutInv}
 use Rattle.bind.specs.Inner.Steps.{note_moves}
 use Rattle.bind.proofs.moves_of.Given as goal
 
 abbrev pub invariant-loop-i : goal.invariant-loop-i
 invariant-loop-i l = PutInv (note_moves l.marks) l.initial.moves l.moves 0 l.i l.i
-
-abbrev pub decreases-loop-i : goal.decreases-loop-i
-decreases-loop-i l = length l.marks - l.i

@@ -15,12 +15,6 @@ returns-then-x-eq1 c = let a = c.args in sym (c.loop-i.invariant ∙ stop-here a
 pub overflow_add-p : goal.overflow_add-p
 overflow_add-p c = omega (arith, c.shared_slice_known-1.given c.loop-i.i)
 
-pub overflow_add-i : goal.overflow_add-i
-overflow_add-i c = omega (arith, c.loop-i-test.true, c.ranges.n)
-
-pub loop-i-smaller : goal.loop-i-smaller
-loop-i-smaller c = omega (arith, c.loop-i-test.true)
-
 pub loop-i-preserved : goal.loop-i-preserved
 loop-i-preserved c = let a = c.args in c.loop-i.invariant ∙ stop-on a.ends.now a.len a.n c.loop-i.i c.loop-i.p c.loop-i-test.true c.if-x-eq1.false
 

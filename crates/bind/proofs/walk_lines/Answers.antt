@@ -36,12 +36,6 @@ walk_line-o-requires c = let g = viewed-here c.loop-k.invariant c.requires.1.1.t
     let w = walk-marked c.loop-k.invariant.turn.bind in
     ((r.0, (omega (arith, b, r.1.0), (omega (arith, b, r.1.1.0, w), λ i. omega (arith, b, r.1.1.1 i, w)))), turn-line c.loop-k.invariant.turn c.loop-k-test.true g c.site_by-s.ensures refl refl)
 
-pub overflow_add-k-in-loop-k : goal.overflow_add-k-in-loop-k
-overflow_add-k-in-loop-k c = omega (arith, c.loop-k-test.true, c.ranges.n)
-
-pub loop-k-smaller : goal.loop-k-smaller
-loop-k-smaller c = omega (arith, c.loop-k-test.true)
-
 pub loop-k-preserved : goal.loop-k-preserved
 loop-k-preserved c = let g = viewed-here c.loop-k.invariant c.requires.1.1.told c.loop-k-test.true c.refill-past.ensures.place c.refill-past.ensures.records c.get-rec.ensures in
     viewed-on c.loop-k.invariant c.requires.1.1.told c.loop-k-test.true c.refill-past.ensures.place c.refill-past.ensures.records
