@@ -141,6 +141,7 @@ fn prune_with(
     let mut i = 0;
     let mut o = 0;
     let mut row = 0;
+    // Kept: below a declaration the place goes over the lines that are known to be none.
     while i < text.len() {
         let e = lines::find_byte(text, i, 10);
         let line = &text[i..e];

@@ -37,14 +37,8 @@ fn mark_run(s: &[u8], own: &[usize], i: usize, m: usize, seen: &mut [usize])
     requires { (is_name (get_or s.now i 0) ≡ true) × (is_name (get_or s.now (i + 1) 0) ≡ true) }
     ensures { seen.new ≡ mark_name own.now m (reg_of (run_at i s.now)) seen.old }
 {
-    let mut j = i + 2;
-    while j < s.len() {
-        if !text::is_name_byte(s[j]) {
-            mark_name(&s[i..j], own, m, seen);
-            return;
-        }
-        j += 1;
-    }
+    let rest = i + 2;
+    let j = words::run_end(s, rest);
     mark_name(&s[i..j], own, m, seen);
 }
 
@@ -84,6 +78,7 @@ fn mark_runs(s: &[u8], own: &[usize], m: usize, seen: &mut [usize])
     ensures { seen.new ≡ mark_runs own.now m (runs s.now) seen.old }
 {
     let mut i = 0;
+    // Kept: the place goes from one `r` to the next.
     while i < s.len() {
         let j = lines::find_byte(s, i, b'r');
         mark_at(s, own, j, m, seen);
@@ -110,6 +105,17 @@ struct Reach {
     quiet: usize,
 }
 
+// Whether the line at `from` is a declaration: that at `i` is one.
+fn declares_at(line: &[u8], from: usize, i: usize) -> bool
+    requires { from ≡ i → is_decl (trim_of line.now) ≡ true }
+    ensures { result ≡ is_decl (trim_of line.now) }
+{
+    if from == i {
+        return true;
+    }
+    parse::declares(line)
+}
+
 // Marks the registers that some line of the region uses that begins at `a`, and returns where it ends. The line at `i` is a declaration, where one is there.
 // The lines from `q` on are no declarations, and are marked at once where one follows or the region ends.
 fn mark_region(
@@ -129,29 +135,27 @@ fn mark_region(
     }
     let e = lines::find_byte(text, a, 10);
     mark_line(&text[a..e], own, m, seen);
-    let mut j = lines::after(text, e);
-    let mut q = j;
-    while j < text.len() {
-        let f = lines::find_byte(text, j, 10);
-        let line = &text[j..f];
-        if place::is_header(line) {
-            mark_runs(&text[q..j], own, m, seen);
-            return Reach { end: j, quiet: q };
+    let below = lines::after(text, e);
+    let mut q = below;
+    for line in lines::each::from(text, below) {
+        if place::is_header(line.bytes) {
+            mark_runs(&text[q..line.from], own, m, seen);
+            return Reach {
+                end: line.from,
+                quiet: q,
+            };
         }
-        if j == i {
-            mark_runs(&text[q..j], own, m, seen);
-            j = lines::after(text, f);
-            q = j;
-        } else if parse::declares(line) {
-            mark_runs(&text[q..j], own, m, seen);
-            j = lines::after(text, f);
-            q = j;
-        } else {
-            j = lines::after(text, f);
+        if !declares_at(line.bytes, line.from, i) {
+            continue;
         }
+        mark_runs(&text[q..line.from], own, m, seen);
+        q = lines::after(text, line.to);
     }
-    mark_runs(&text[q..j], own, m, seen);
-    Reach { end: j, quiet: q }
+    mark_runs(&text[q..], own, m, seen);
+    Reach {
+        end: text.len(),
+        quiet: q,
+    }
 }
 
 // The last mark, where the region ends that has it, and where the next line stands that may be a header or a declaration.
