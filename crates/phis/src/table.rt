@@ -13,6 +13,7 @@ pub fn has_phi(s: &[u8]) -> bool
     ensures { result ≡ holds phi_word s.now }
 {
     let mut i = 0;
+    // Kept: the place goes from one `p` to the next.
     while i < s.len() {
         let j = lines::find_byte(s, i, b'p');
         if lines::starts_with(lines::cut(s, j, s.len()), b"phi") {
@@ -79,17 +80,14 @@ fn note_runs(s: &[u8], own: &[usize], stored: Option<names::Phi>, table: &mut [u
     ensures { table.new ≡ note_runs own.now stored (runs s.now) table.old }
 {
     let mut a = 0;
-    let mut i = 0;
-    while i < s.len() {
+    for i in 0..s.len() {
         if text::is_name_byte(s[i]) {
-            i += 1;
-        } else {
-            note_run(lines::cut(s, a, i), own, stored, table);
-            i += 1;
-            a = i;
+            continue;
         }
+        note_run(lines::cut(s, a, i), own, stored, table);
+        a = i + 1;
     }
-    note_run(lines::cut(s, a, i), own, stored, table);
+    note_run(lines::cut(s, a, s.len()), own, stored, table);
 }
 
 // Notes what a line does.

@@ -142,10 +142,8 @@ fn outward(up: &[u32], c: u32, n: usize, k: usize) -> u32
     ensures { result ≡ cur_by (replicate k closes) c (take n up.now) }
 {
     let mut b = c;
-    let mut j = k;
-    while 0 < j {
+    for _ in 0..k {
         b = around(up, b, n);
-        j -= 1;
     }
     b
 }
