@@ -13,4 +13,5 @@ pub mod Counts
 pub mod JoinLaws
 pub mod ActLaws
 pub mod EachLaws
+pub mod EachLists
 pub mod Examples

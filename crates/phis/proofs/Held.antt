@@ -22,7 +22,7 @@ use Rattle.words.specs.Hits.{hits_go, hits}
 use Rattle.reading.specs.Assign.{unended, is_assign, left_of}
 use Rattle.lines.proofs.Lacking.{lines-lack}
 use Rattle.phis.specs.Phis.{is_phi, all_phis, phi_decl, phi_store, phi_reads, any_dead}
-use Rattle.phis.proofs.Searches.{piece_other, phis-all, piece-hit}
+use Rattle.phis.proofs.Searches.{phis-not}
 
 -- ---- parts of a text
 
@@ -83,15 +83,14 @@ store-none : (t : List ℕ) → holds phi_word t ≡ false → phi_store t ≡ N
 unfolding phi_store left_of
 store-none t h = rw (phi_none (left_of t) (held-trim _ (held-take (up_to 61 (unended t)) (unended t) (held-take (length t - 1) t h)))) (go (not (is_let t) && is_assign t))
   where
-    go : (b : Bool) → cond b None None ≡ None
+    go : (b : Bool) → ◌≡◌ {A = Option Phi} (cond b None None) None
     go true = refl
     go false = refl
 
 phis-none : (s : List ℕ) → holds phi_word s ≡ false → all_phis (parts_of 44 s) ≡ false
 phis-none s h =
     let e : ℕ = 0 + up_to 44 (drop 0 s) in
-    phis-all (parts_of 44 s)
-    ∙ ap not (piece-hit (λ (x : List ℕ). piece_other x) s 0 e (omega arith) refl (part 0 e s) refl (ap (λ (n : Option Phi). not (is_phi n)) (phi_none (trim_of (part 0 e s)) (held-trim (part 0 e s) (held-take (e - 0) s h)))))
+    phis-not s e refl (ap (λ (n : Option Phi). is_phi n) (phi_none (trim_of (part 0 e s)) (held-trim (part 0 e s) (held-take (e - 0) s h))))
 
 decl-none : (t : List ℕ) → holds phi_word t ≡ false → phi_decl t ≡ false
 unfolding phi_decl

@@ -58,34 +58,14 @@ fn is_let(t: &[u8]) -> bool
 fn all_phis(s: &[u8]) -> bool
     ensures { result ≡ all_phis (parts_of 44 s.now) }
 {
-    let mut i = 0;
-    loop {
-        let e = lines::find_byte(s, i, b',');
-        if !names_phi(text::trim(lines::cut(s, i, e))) {
-            return false;
-        }
-        if e >= s.len() {
-            return true;
-        }
-        i = e + 1;
-    }
+    lines::pieces(s, b',').all(|p| names_phi(text::trim(p)))
 }
 
 // Whether one of the pieces between the commas names a phi.
 fn any_phi(s: &[u8], phi: names::Phi) -> bool
     ensures { result ≡ any_phi phi.0 (parts_of 44 s.now) }
 {
-    let mut i = 0;
-    loop {
-        let e = lines::find_byte(s, i, b',');
-        if is_phi(names::phi_name(text::trim(lines::cut(s, i, e))), phi) {
-            return true;
-        }
-        if e >= s.len() {
-            return false;
-        }
-        i = e + 1;
-    }
+    lines::pieces(s, b',').any(|p| is_phi(names::phi_name(text::trim(p)), phi))
 }
 
 // Whether a text, its front trimmed, is a declaration of phis alone.
@@ -148,24 +128,14 @@ fn phi_reads(line: &[u8], phi: names::Phi) -> bool
 fn phi_read(text: &[u8], phi: names::Phi) -> bool
     ensures { result ≡ phi_read phi.0 (lines_of text.now) }
 {
-    for line in lines::each::each(text) {
-        if phi_reads(line.bytes, phi) {
-            return true;
-        }
-    }
-    false
+    lines::each::each(text).any(|line| phi_reads(line.bytes, phi))
 }
 
 // Whether some line of a text stores a phi.
 fn phi_stored(text: &[u8], phi: names::Phi) -> bool
     ensures { result ≡ phi_stored phi.0 (lines_of text.now) }
 {
-    for line in lines::each::each(text) {
-        if is_phi(line_store(line.bytes), phi) {
-            return true;
-        }
-    }
-    false
+    lines::each::each(text).any(|line| is_phi(line_store(line.bytes), phi))
 }
 
 // Whether a phi is dead: some line of a text stores it, and none reads it.
@@ -206,12 +176,7 @@ fn any_dead(text: &[u8], own: &[usize], table: &[u8]) -> bool
     requires { Tells own.now (lines_of text.now) table.now }
     ensures { result ≡ any_dead (lines_of text.now) (lines_of text.now) }
 {
-    for line in lines::each::each(text) {
-        if dead_by(line_store(line.bytes), text, own, table) {
-            return true;
-        }
-    }
-    false
+    lines::each::each(text).any(|line| dead_by(line_store(line.bytes), text, own, table))
 }
 
 // Whether a text names a phi that is not dead.

@@ -96,12 +96,7 @@ pub fn line_uses(line: &[u8], reg: names::Register) -> bool
 pub fn uses(text: &[u8], reg: names::Register) -> bool
     ensures { result ≡ used_in reg.0 (lines_of text.now) }
 {
-    for line in lines::each::each(text) {
-        if line_uses(line.bytes, reg) {
-            return true;
-        }
-    }
-    false
+    lines::each::each(text).any(|line| line_uses(line.bytes, reg))
 }
 
 // Whether a byte is one of ASCII above the space: it is no white space, nor part of one.

@@ -1,26 +1,12 @@
-use Prim.Native.Nat.{ℕ}
-use mathlib.Core.Path.{sym, ◌∙◌}
-use mathlib.Core.List.{List}
-use Rattle.lines.specs.Lf.{lines_of}
-use Rattle.lines.proofs.Tests.{so}
+use Rattle.std.proofs.Common.{◌∙◌, rules, tests}
+use Rattle.std.proofs.lemmas.Iterator.Search.{any_from_yields_List}
+use Rattle.lines.proofs.EachLists.{each-listed}
 use Rattle.phis.specs.Phis.{phi_reads}
-use Rattle.phis.proofs.Searches.{read-any, line-hit, line_on, line-end}
-use Rattle.lines.proofs.EachLaws.{at-front, goes, stops}
+use Rattle.phis.proofs.Searches.{read-any}
 use Rattle.phis.proofs.phi_read.Goals as goal
-
-pub loop-line-init : goal.loop-line-init
-loop-line-init c = let e = c.into_iter-line-iterator.ensures.into_iter_gives in let g = c.each-line-items.ensures in (at-front e g.text g.front, rw (e, g.front) (sym (read-any c.args.phi.0 (lines_of c.args.text.now))))
-
-pub returns-then-phi_reads : goal.returns-then-phi_reads
-returns-then-phi_reads c = let k = goes c.loop-line.invariant.0 c.in-Some.ensures.steps in
-    let a = c.args in
-    sym (line-hit (λ (l : List ℕ). phi_reads a.phi.0 l) a.text.now c.loop-line.line-iterator.at c.in-Some.line.to k.here.starts k.here.to c.in-Some.line.bytes.now k.here.bytes (so c.phi_reads.ensures c.if-phi_reads.true)) ∙ c.loop-line.invariant.1
-
-pub loop-line-preserved : goal.loop-line-preserved
-loop-line-preserved c = let k = goes c.loop-line.invariant.0 c.in-Some.ensures.steps in let a = c.args in
-    (k.on, sym (line_on (λ (l : List ℕ). phi_reads a.phi.0 l) a.text.now c.loop-line.line-iterator.at c.in-Some.line.to k.here.starts k.here.to c.in-Some.line.bytes.now k.here.bytes _ k.here.next (so c.phi_reads.ensures c.if-phi_reads.false)) ∙ c.loop-line.invariant.1)
 
 pub returns : goal.returns
 returns c =
-    let a = c.args in
-    sym (line-end (λ (l : List ℕ). phi_reads a.phi.0 l) a.text.now c.loop-line.line-iterator.at (stops c.loop-line.invariant.0 c.in-None.ensures.steps)) ∙ c.loop-line.invariant.1
+    let p = c.args.phi.0 in
+    any_from_yields_List (phi_reads p) _ _ _ c.any.ensures.ran (each-listed c.each.ensures.text c.each.ensures.front) (λ x b q k. search (rules, tests))
+    ∙ read-any p _
