@@ -2,6 +2,7 @@ pub mod FixLaws
 pub mod CallLaws
 pub mod CommentLaws
 pub mod QuoteLaws
+pub mod ModeLaws
 pub mod SpaceLaws
 pub mod PureLaws
 pub mod TidyLaws

@@ -167,9 +167,6 @@ module _ (t : List ℕ) (q : ℕ) (h : q ≡ get_or t 0 0) where
 
 -- ---- by the mode
 
-pub cut_by : (b strict : Bool) → strict ≡ b → (s : List ℕ) → cut_in strict s ≡ cut_in b s
-cut_by b strict e s = ap (λ (m : Bool). cut_in m s) e
-
 pub cut-length : (strict : Bool) (s : List ℕ) → length (cut_in strict s) ≤ length s
 cut-length true s = quoted-length s
 cut-length false s = strip-length s

@@ -8,9 +8,9 @@ ghost use Rattle.lines.specs.Lf.{prefixed, all};
 ghost use Rattle.lines.specs.Inner.Out.{put_at, Wrote};
 ghost use Rattle.names.specs.Names.{is_digit, reg_of, is_reg};
 ghost use Rattle.expr.specs.Comments.{strip_comments};
-ghost use Rattle.expr.specs.Quotes.{strip_quoted, is_closed};
+ghost use Rattle.expr.specs.Quotes.{is_closed};
 ghost use Rattle.expr.specs.Pure.{is_space, space_start, space_end, space_trim, is_word, starts_number, is_number_byte, wrapped, quoted_in, shape_of, openings, closings, is_pure, pure_by, cut_in, purity_in};
-ghost use Rattle.expr.specs.Inner.Pure.{purity_cut};
+ghost use Rattle.expr.specs.Inner.Pure.{purity_cut, opens_literal};
 
 use kinds::{Purity, Shape};
 
@@ -28,55 +28,17 @@ fn two_at(s: &[u8], i: usize, x: u8, y: u8) -> bool
     (x == s[i]) & (y == s[j])
 }
 
-// Writes `s` without its comments at `o`, byte by byte, and returns the place after it.
-fn strip_each(s: &[u8], out: &mut [u8], o: usize) -> usize
-    requires { o + length (strip_comments s.now) ≤ length out.old }
-    ensures { Wrote out.old o (strip_comments s.now) out.new result }
+// Whether a literal begins with a byte: in strict mode one in quotes stays whole.
+fn opens_literal(b: u8, strict: bool) -> bool
+    ensures { result ≡ opens_literal strict b }
 {
-    let mut i = 0;
-    let mut n = o;
-    let mut inside = false;
-    // Kept: the place moves by the bytes of what opens and closes a comment.
-    while i < s.len() {
-        if inside {
-            if two_at(s, i, b'*', b'/') {
-                out[n] = b' ';
-                n += 1;
-                i += 2;
-                inside = false;
-            } else {
-                i += 1;
-            }
-        } else if two_at(s, i, b'/', b'*') {
-            i += 2;
-            inside = true;
-        } else if two_at(s, i, b'/', b'/') {
-            return n;
-        } else {
-            out[n] = s[i];
-            n += 1;
-            i += 1;
-        }
-    }
-    n
+    strict && text::is_quote(b)
 }
 
-// The same: a text without `/` has no comment.
-pub fn strip_comments(s: &[u8], out: &mut [u8], o: usize) -> usize
-    requires { o + length (strip_comments s.now) ≤ length out.old }
-    ensures { Wrote out.old o (strip_comments s.now) out.new result }
-{
-    let k = lines::find_byte(s, 0, b'/');
-    if k >= s.len() {
-        return lines::put(out, o, s);
-    }
-    strip_each(s, out, o)
-}
-
-// Writes `s` at `o` without the comments that stand outside quotes, and returns the place after it.
-fn strip_quoted(s: &[u8], out: &mut [u8], o: usize) -> usize
-    requires { o + length (strip_quoted s.now) ≤ length out.old }
-    ensures { Wrote out.old o (strip_quoted s.now) out.new result }
+// Writes `s` at `o` without its comments, as the mode takes them, and returns the place after it.
+fn strip(s: &[u8], strict: bool, out: &mut [u8], o: usize) -> usize
+    requires { o + length (cut_in strict s.now) ≤ length out.old }
+    ensures { Wrote out.old o (cut_in strict s.now) out.new result }
 {
     let mut i = 0;
     let mut n = o;
@@ -93,7 +55,7 @@ fn strip_quoted(s: &[u8], out: &mut [u8], o: usize) -> usize
             } else {
                 i += 1;
             }
-        } else if text::is_quote(b) {
+        } else if opens_literal(b, strict) {
             let e = lexical::quote_end(s, i + 1, b);
             n = lines::put(out, n, &s[i..e]);
             i = e;
@@ -111,13 +73,25 @@ fn strip_quoted(s: &[u8], out: &mut [u8], o: usize) -> usize
     n
 }
 
+// The same in plain mode: a text without `/` has no comment.
+pub fn strip_comments(s: &[u8], out: &mut [u8], o: usize) -> usize
+    requires { o + length (strip_comments s.now) ≤ length out.old }
+    ensures { Wrote out.old o (strip_comments s.now) out.new result }
+{
+    let k = lines::find_byte(s, 0, b'/');
+    if k >= s.len() {
+        return lines::put(out, o, s);
+    }
+    strip(s, false, out, o)
+}
+
 // Writes `s` at `o` without its comments, as the mode takes them.
 fn cut_in(s: &[u8], strict: bool, out: &mut [u8], o: usize) -> usize
     requires { o + length (cut_in strict s.now) ≤ length out.old }
     ensures { Wrote out.old o (cut_in strict s.now) out.new result }
 {
     if strict {
-        return strip_quoted(s, out, o);
+        return strip(s, true, out, o);
     }
     strip_comments(s, out, o)
 }

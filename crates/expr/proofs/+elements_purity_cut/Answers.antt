@@ -36,14 +36,14 @@ elements-loop-i-preserved t c =
     let o = opens-le (get_or s l.i 0) in
     let k = closes-le (get_or s l.i 0) in
     elim c.if-b-opened.branch [
-      elements-then-b-opened+else-not-is_pure w ↦ record {
+      | elements-then-b-opened+else-not-is_pure w ↦ record {
         began = omega arith;
         inside = omega arith;
         opened_le = omega arith;
         closed_le = omega arith;
         walked = rw (w.start-is, w.opened-is, w.closed-is) (l.invariant.walked ∙ walk-comma _ s l.start l.i l.opened l.closed (omega arith) w.if-b-opened.true (sym (w.is_pure.ensures ∙ ap is_pure w.purity_cut.ensures) ∙ w.if-not-is_pure.false));
       }
-    | elements-else-b-opened w ↦ record {
+      | elements-else-b-opened w ↦ record {
         began = omega arith;
         inside = omega arith;
         opened_le = omega (arith, w.opens-opened.ensures);
