@@ -12,16 +12,9 @@ pub fn strip_lexical(a: &[u8], out: &mut [u8]) -> usize {
 // The words of a cleaned text, each followed by LF.
 fn say_words(t: &[u8], out: &mut [u8]) -> usize {
     let mut p = 0;
-    let mut i = 0;
-    while i < t.len() {
-        match lexical::next_word(t, i) {
-            Some(w) => {
-                let o = say(out, p, lines::cut(t, w.from, w.to));
-                p = say_byte(out, o, 10);
-                i = if i < w.to { w.to } else { t.len() };
-            }
-            None => i = t.len(),
-        }
+    for word in lexical::idents::each(t) {
+        let o = say(out, p, word);
+        p = say_byte(out, o, 10);
     }
     p
 }
