@@ -151,10 +151,7 @@ fn is_blank(s: &[u8]) -> bool
 fn is_register(t: &[u8]) -> bool
     ensures { result ≡ is_reg (reg_of t.now) }
 {
-    match names::reg_name(t) {
-        Some(_) => true,
-        None => false,
-    }
+    names::reg_name(t).is_some()
 }
 
 // Whether a text is one of the six words of a fixed value.

@@ -28,10 +28,7 @@ pub enum Line {
 fn is_reg(s: &[u8]) -> bool
     ensures { result ≡ is_reg (reg_of s.now) }
 {
-    match names::reg_name(s) {
-        Some(_) => true,
-        None => false,
-    }
+    names::reg_name(s).is_some()
 }
 
 // Where the digits that begin at a place end.
