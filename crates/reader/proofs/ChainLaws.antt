@@ -7,11 +7,9 @@ use native.Mathlib.Omega.{arith}
 use native.Mathlib.Nat.{add-zero}
 use borrow.Author.Tests.{eq-eqb, ne_eqb, eqb-true, lt-ltb, le-ltb}
 use lib.Dec.{eqb}
-use lib.ListN.{length, take, drop, get_or, set, replicate, length-append, length-take, length-drop, length-replicate, take-append-drop, replicate-append-replicate, get_or-eq_default}
+use lib.ListN.{length, take, drop, get_or, set, replicate, length-append, length-take, length-drop, length-replicate, take-append-drop, get_or-eq_default}
 use lib.Seq.{take-suc, drop-cons, drop-length, set-append_seam, set_out, length-take-le}
-use Rattle.lines.specs.Inner.Out.{Wrote}
 use Rattle.lines.proofs.Tests.{no}
-use Rattle.lines.proofs.OutLaws.{wrote-nil, wrote_as, wrote-more, wrote-whole}
 use Rattle.origins.specs.declared.Went.{Went}
 use Rattle.origins.specs.declared.Went.TheVariants.{Equal, Changed, Inside, Away}
 use Rattle.origins.specs.Form.{Shape}

@@ -5,9 +5,13 @@ use mathlib.Core.Bool.{Bool, true, false, cond, not, ◌&&◌}
 use mathlib.Core.List.{List, [], ◌∷◌, ◌++◌}
 use native.Mathlib.Omega.{arith}
 use native.Mathlib.Nat.{mul-suc}
-use borrow.Author.Tests.{eq-eqb, ne_eqb, eqb-true, lt-ltb, le-ltb, ltb-false, le-leb, lt-leb}
+use borrow.Author.Tests.{eq-eqb, ne_eqb, eqb-true, lt-ltb, le-ltb, ltb-false, ltb-true, le-leb, lt-leb}
 use lib.Dec.{eqb, leb, ltb}
 use lib.ListN.{length, take, drop, get_or, length-drop, length-append, drop_of_length-le}
+use Rattle.std.proofs.Common.{take_all}
+use Rattle.std.specs.Prelude.{count_by, filter}
+use Rattle.std.proofs.lemmas.List.Sums.{length-filter}
+use Rattle.std.proofs.lemmas.List.Recursion.{is_count_by}
 use lib.Seq.{get_or-drop, drop-drop, drop-cons}
 use Rattle.lines.specs.Lf.{word}
 use Rattle.lines.specs.Inner.Out.{Wrote, put_at}
@@ -24,6 +28,8 @@ use Rattle.origins.proofs.RoundTrip.{Good, good_of, record-length, file-length, 
 use Rattle.reader.specs.declared.Reply.{Reply}
 use Rattle.reader.specs.declared.Reply.TheVariants.{Fine, Cut, WrongMark, OutOfOrder, UnknownFate, Disagree, Unfit, Short, NoRoom}
 use Rattle.reader.specs.Replies.{reply_number, reply_place, form_in, refusal, check_reply, lines_reply, lines_after, turned_reply, turned_after, wents_from, wents_in}
+use Rattle.reader.specs.declared.each.Records.{Records}
+use Rattle.reader.specs.Inner.Each.{left}
 use Rattle.reader.specs.Inner.Walk.{checked_from, one_in}
 
 -- ---- numbers
@@ -213,24 +219,43 @@ unfolding wents_from
 wents-none F zero s h = refl
 wents-none F (suc n) s h = rw (lt-ltb (length s) (size_of F) h)
 
--- those from record i on, at o
-abbrev pub rest : Shape → List ℕ → ℕ → ℕ → List Went
-rest F s i o = wents_from F (length s - i) (drop o s)
+-- no more records are looked for than bytes are there
+wents_enough : (F : Shape) (n m : ℕ) (s : List ℕ) → length s ≤ n → length s ≤ m → wents_from F n s ≡ wents_from F m s
+wents_enough F zero m s h k = wents-none F zero s (omega arith) ∙ sym (wents-none F m s (omega arith))
+wents_enough F (suc n) zero s h k = wents-none F (suc n) s (omega arith) ∙ sym (wents-none F zero s (omega arith))
+wents_enough F (suc n) (suc m) s h k = go (ltb (length s) (size_of F)) refl (wents_enough F n m (drop (size_of F) s))
+  where
+    go : (b : Bool) → ltb (length s) (size_of F) ≡ b → (length (drop (size_of F) s) ≤ n → length (drop (size_of F) s) ≤ m → wents_from F n (drop (size_of F) s) ≡ wents_from F m (drop (size_of F) s)) → wents_from F (suc n) s ≡ wents_from F (suc m) s
+    go true e r = let l = ltb-true (length s) (size_of F) e in wents-none F (suc n) s l ∙ sym (wents-none F (suc m) s l)
+    go false e r =
+        let l = ltb-false (length s) (size_of F) e in
+        wents-more F n s l
+        ∙ ap (λ (ws : List Went). went_in F s ∷ ws) (r (omega (arith, length-drop (size_of F) s)) (omega (arith, length-drop (size_of F) s)))
+        ∙ sym (wents-more F m s l)
 
-rest-start : (F : Shape) (s : List ℕ) → wents_in F s ≡ rest F s 0 0
+pub wents-first : (F : Shape) (s : List ℕ) → size_of F ≤ length s → wents_in F s ≡ went_in F s ∷ wents_in F (drop (size_of F) s)
 unfolding wents_in
-rest-start F s = let q : length s ≡ length s - 0 = omega arith in ap (λ (n : ℕ). wents_from F n s) q
+wents-first F s h =
+    wents_enough F (length s) (suc (length s)) s (omega arith) (omega arith)
+    ∙ wents-more F (length s) s h
+    ∙ ap (λ (ws : List Went). went_in F s ∷ ws) (wents_enough F (length s) (length (drop (size_of F) s)) (drop (size_of F) s) (omega (arith, length-drop (size_of F) s)) (omega arith))
 
-module _ (F : Shape) (s : List ℕ) (i o : ℕ) (a : i ≤ o) where
-  rest_more : o ≤ length s → size_of F ≤ length s - o → rest F s i o ≡ went_in F (drop o s) ∷ rest F s (i + 1) (o + size_of F)
-  rest_more b h =
-      let q : length s - i ≡ suc (length s - (i + 1)) = omega arith in
-      ap (λ (n : ℕ). wents_from F n (drop o s)) q
-      ∙ wents-more F (length s - (i + 1)) (drop o s) (omega (arith, length-drop o s))
-      ∙ ap (λ (t : List ℕ). went_in F (drop o s) ∷ wents_from F (length s - (i + 1)) t) (drop-drop (size_of F) o s)
+pub wents-over : (F : Shape) (s : List ℕ) → length s < size_of F → wents_in F s ≡ []
+unfolding wents_in
+wents-over F s h = wents-none F (length s) s h
 
-  rest-none : length s - o < size_of F → rest F s i o ≡ []
-  rest-none h = wents-none F (length s - i) (drop o s) (omega (arith, length-drop o s))
+-- the first of them, and the rest of the bytes as a part up to the end
+pub wents-next : (F : Shape) (s : List ℕ) (z : ℕ) (w : Went) → z ≡ size_of F → z ≤ length s → w ≡ went_in F (drop 0 s) → wents_in F s ≡ w ∷ wents_in F (take (length s - z) (drop z s))
+wents-next F s z w e h q =
+    let a : take (length s - z) (drop z s) ≡ drop z s = take_all (length s - z) (drop z s) (omega (arith, length-drop z s)) in
+    wents-first F s (omega arith)
+    ∙ ap (λ (x : Went). x ∷ wents_in F (drop (size_of F) s)) (sym q)
+    ∙ ap (λ (n : ℕ). w ∷ wents_in F (drop n s)) (sym e)
+    ∙ ap (λ (t : List ℕ). w ∷ wents_in F t) (sym a)
+
+-- all of them are left where the walk over a file begins
+pub each-all : (f : Form) (s : List ℕ) {r it : Records} → it ≡ r → r.form ≡ f → r.bytes.now ≡ s → left it ≡ wents_in (form_shape f) s
+each-all f s {r = r} e q b = ap left e ∙ ap (λ (g : Form). wents_in (form_shape g) r.bytes.now) q ∙ ap (wents_in (form_shape f)) b
 
 -- ---- counting
 
@@ -249,72 +274,60 @@ one-length n i w = go (is_in n w)
     go true = refl
     go false = refl
 
-one-small : (b : Bool) → cond b 1 0 ≤ 1
-one-small true = omega arith
-one-small false = omega arith
-
 behind-none : (n i : ℕ) → behind_from n i [] ≡ []
 unfolding behind_from
 behind-none n i = refl
 
-behind-start : (F : Shape) (s : List ℕ) (n : ℕ) → behind n (wents_in F s) ≡ behind_from n 0 (rest F s 0 0)
+-- how many there are does not hang on the number of the first line
+behind_as_many : (n i j : ℕ) (ws : List Went) → length (behind_from n i ws) ≡ length (behind_from n j ws)
+unfolding behind_from
+behind_as_many n i j [] = refl
+behind_as_many n i j (w ∷ ws) = go (is_in n w) (behind_as_many n (suc i) (suc j) ws)
+  where
+    go : (b : Bool) → length (behind_from n (suc i) ws) ≡ length (behind_from n (suc j) ws) → length (cond b (i ∷ behind_from n (suc i) ws) (behind_from n (suc i) ws)) ≡ length (cond b (j ∷ behind_from n (suc j) ws) (behind_from n (suc j) ws))
+    go true e = ap suc e
+    go false e = e
+
+behind_one : (n : ℕ) (w : Went) (ws : List Went) → length (behind_from n 0 (w ∷ ws)) ≡ cond (is_in n w) (1 + length (behind_from n 0 ws)) (length (behind_from n 0 ws))
+unfolding behind_from
+behind_one n w ws = go (is_in n w) (behind_as_many n 1 0 ws)
+  where
+    go : (b : Bool) → length (behind_from n 1 ws) ≡ length (behind_from n 0 ws) → length (cond b (0 ∷ behind_from n 1 ws) (behind_from n 1 ws)) ≡ cond b (1 + length (behind_from n 0 ws)) (length (behind_from n 0 ws))
+    go true e = omega arith
+    go false e = e
+
+behind-count : (n : ℕ) (ws : List Went) → count_by (is_in n) ws ≡ length (behind n ws)
 unfolding behind
-behind-start F s n = ap (behind_from n 0) (rest-start F s)
+behind-count n ws = sym (is_count_by (λ us. length (behind_from n 0 us)) (is_in n) (ap length (behind-none n 0)) (behind_one n) ws)
 
-pub record CountInv (F : Shape) (s : List ℕ) (n o k : ℕ) : Type 0 where
-  pub i : ℕ
-  pub i≤ : i ≤ o
-  pub o≤ : o ≤ length s
-  pub k≤ : k ≤ i
-  pub same : length (behind n (wents_in F s)) ≡ k + length (behind_from n i (rest F s i o))
-
-pub count-start : (F : Shape) (s : List ℕ) (n : ℕ) → CountInv F s n 0 0
-count-start F s n = record { i = 0; i≤ = omega arith; o≤ = omega arith; k≤ = omega arith; same = omega (arith, ap length (behind-start F s n)) }
-
-module _ {F : Shape} {s : List ℕ} {n o k : ℕ} (h : CountInv F s n o k) where
-  pub count-on : size_of F ≤ length s - o → (w : Went) (a : ℕ) → w ≡ went_in F (drop o s) → a ≡ cond (is_in n w) 1 0 → CountInv F s n (o + size_of F) (k + a)
-  count-on l w a e f =
-      let i : ℕ = h.i in
-      let v = went_in F (drop o s) in
-      let m : a ≡ length (one_in n i v) = f ∙ ap (λ (x : Went). cond (is_in n x) 1 0) e ∙ sym (one-length n i v) in
-      let q : length (behind_from n i (rest F s i o)) ≡ length (one_in n i v) + length (behind_from n (i + 1) (rest F s (i + 1) (o + size_of F))) = ap (λ (ws : List Went). length (behind_from n i ws)) (rest_more F s i o h.i≤ h.o≤ l) ∙ ap length (behind-split n i v (rest F s (i + 1) (o + size_of F))) ∙ length-append (one_in n i v) (behind_from n (i + 1) (rest F s (i + 1) (o + size_of F))) in
-      record {
-        i = h.i + 1;
-        i≤ = omega (arith, h.i≤);
-        o≤ = omega (arith, h.o≤);
-        k≤ = omega (arith, h.k≤, f, one-small (is_in n w));
-        same = omega (arith, h.same, q, m);
-      }
-
-  pub count-end : length s - o < size_of F → k ≡ length (behind n (wents_in F s))
-  count-end l = omega (arith, h.same, ap length (ap (behind_from n h.i) (rest-none F s h.i o h.i≤ l) ∙ behind-none n h.i))
-
-pub one-le : (n a : ℕ) (w : Went) → a ≡ cond (is_in n w) 1 0 → a ≤ 1
-one-le n a w e = omega (arith, one-small (is_in n w))
+pub behind-filter : (n : ℕ) (ws : List Went) → length (filter (is_in n) ws) ≡ length (behind n ws)
+behind-filter n ws = length-filter (is_in n) ws ∙ behind-count n ws
 
 -- ---- writing them
 
-pub record BehindInv (F : Shape) (s : List ℕ) (n : ℕ) (d₀ d : List ℕ) (i o k : ℕ) : Type 0 where
-  pub i≤ : i ≤ o
-  pub o≤ : o ≤ length s
-  pub writing : Writing 0 (behind n (wents_in F s)) (behind_from n i (rest F s i o)) d₀ d k
+pub record BehindInv (all : List ℕ) (n i : ℕ) (ws : List Went) (d₀ d : List ℕ) (k : ℕ) : Type 0 where
+  pub writing : Writing 0 all (behind_from n i ws) d₀ d k
 
-pub behind-begin : (F : Shape) (s : List ℕ) (n : ℕ) (d : List ℕ) → length (behind n (wents_in F s)) ≤ length d → BehindInv F s n d d 0 0 0
-behind-begin F s n d h = record { i≤ = omega arith; o≤ = omega arith; writing = writing-as (behind-start F s n) (writing_start 0 (behind n (wents_in F s)) d (omega arith)) }
+module _ {all : List ℕ} {n i x k : ℕ} {d₀ d : List ℕ} {w : Went} {ws us : List Went} (h : BehindInv all n i ws d₀ d k) (e : ws ≡ w ∷ us) (q : x ≡ i) where
+  behind-now : Writing 0 all (one_in n x w ++ behind_from n (x + 1) us) d₀ d k
+  behind-now = writing-as (ap (λ (m : ℕ). behind_from n m ws) (sym q) ∙ ap (behind_from n x) e ∙ behind-split n x w us) h.writing
 
-module _ {F : Shape} {s : List ℕ} {n : ℕ} {d₀ d : List ℕ} {i o k : ℕ} (h : BehindInv F s n d₀ d i o k) where
-  module _ (l : size_of F ≤ length s - o) (w : Went) (e : w ≡ went_in F (drop o s)) where
-    behind-now : Writing 0 (behind n (wents_in F s)) (one_in n i w ++ behind_from n (i + 1) (rest F s (i + 1) (o + size_of F))) d₀ d k
-    behind-now = writing-as (ap (behind_from n i) (rest_more F s i o h.i≤ h.o≤ l) ∙ behind-split n i (went_in F (drop o s)) (rest F s (i + 1) (o + size_of F)) ∙ ap (λ (x : Went). one_in n i x ++ behind_from n (i + 1) (rest F s (i + 1) (o + size_of F))) (sym e)) h.writing
+  pub behind-room : k + length (one_in n x w) ≤ length d
+  behind-room = omega (arith, writing-room behind-now, length-append (one_in n x w) (behind_from n (x + 1) us))
 
-    pub behind-room : k + length (one_in n i w) ≤ length d
-    behind-room = omega (arith, writing-room behind-now, length-append (one_in n i w) (behind_from n (i + 1) (rest F s (i + 1) (o + size_of F))))
+  pub behind-on : {j : ℕ} → j ≡ i + 1 → {d' : List ℕ} {r : ℕ} → Wrote d k (one_in n x w) d' r → BehindInv all n j us d₀ d' r
+  behind-on {j} p z = let m : x + 1 ≡ j = omega arith in record { writing = writing-as (ap (λ (y : ℕ). behind_from n y us) m) (writing-put behind-now z) }
 
-    pub behind-on : {d' : List ℕ} {r : ℕ} → Wrote d k (one_in n i w) d' r → BehindInv F s n d₀ d' (i + 1) (o + size_of F) r
-    behind-on z = record { i≤ = omega (arith, h.i≤); o≤ = omega (arith, h.o≤); writing = writing-put behind-now z }
+pub behind-end : {all : List ℕ} {n i k : ℕ} {d₀ d : List ℕ} {ws : List Went} → BehindInv all n i ws d₀ d k → ws ≡ [] → Wrote d₀ 0 all d k
+behind-end {n = n} {i = i} h e = writing-end (writing-as (ap (behind_from n i) e ∙ behind-none n i) h.writing)
 
-  pub behind-end : length s - o < size_of F → Wrote d₀ 0 (behind n (wents_in F s)) d k
-  behind-end l = writing-end (writing-as (ap (behind_from n i) (rest-none F s i o h.i≤ l) ∙ behind-none n i) h.writing)
+behind-is : (n : ℕ) (ws : List Went) → behind n ws ≡ behind_from n 0 ws
+unfolding behind
+behind-is n ws = refl
+
+pub behind-begin : (all : List Went) (n i : ℕ) (d : List ℕ) (ws : List Went) → length (behind n all) ≤ length d → i ≡ 0 → ws ≡ all → BehindInv (behind n all) n i ws d d 0
+behind-begin all n i d ws h q e =
+    record { writing = writing-as (behind-is n all ∙ ap (behind_from n 0) (sym e) ∙ ap (λ (m : ℕ). behind_from n m ws) (sym q)) (writing_start 0 (behind n all) d (omega arith)) }
 
 pub one-put : (n i : ℕ) (w : Went) (d : List ℕ) (k : ℕ) → is_in n w ≡ true → k < length d → (x : List ℕ) (r : ℕ) → Wrote d k (i ∷ []) x r → Wrote d k (one_in n i w) x r
 one-put n i w d k e h x r z = rw e z
@@ -551,13 +564,15 @@ pub fits_by : (G : Shape) (i : ℕ) (w x : Went) (n : ℕ) → n ≡ gone_of G �
 fits_by G i w x n e h f = rw (le-leb i (gone_of G) (omega arith), f)
 
 -- the first that does not
-pub record FitInv (F G : Shape) (s : List ℕ) (i o : ℕ) : Type 0 where
-  pub i≤ : i ≤ o
-  pub o≤ : o ≤ length s
-  pub same : unfit G 0 (wents_in F s) ≡ unfit G i (rest F s i o)
+pub record FitInv (G : Shape) (all : List Went) (i : ℕ) (ws : List Went) : Type 0 where
+  pub same : unfit G 0 all ≡ unfit G i ws
+  pub count : i + length ws ≡ length all
 
-pub fit-start : (F G : Shape) (s : List ℕ) → FitInv F G s 0 0
-fit-start F G s = record { i≤ = omega arith; o≤ = omega arith; same = ap (unfit G 0) (rest-start F s) }
+pub fit-begin : (G : Shape) (all : List Went) {i : ℕ} {ws : List Went} → i ≡ 0 → ws ≡ all → FitInv G all i ws
+fit-begin G all {i} {ws} q e = record {
+  same = ap (unfit G 0) (sym e) ∙ ap (λ (m : ℕ). unfit G m ws) (sym q);
+  count = omega (arith, ap length e);
+}
 
 unfit-one : (G : Shape) (i : ℕ) (w : Went) (ws : List Went) → unfit G i (w ∷ ws) ≡ cond (fits G i w) (unfit G (i + 1) ws) i
 unfolding unfit
@@ -567,39 +582,32 @@ unfit-none : (G : Shape) (i : ℕ) → unfit G i [] ≡ i
 unfolding unfit
 unfit-none G i = refl
 
-module _ {F G : Shape} {s : List ℕ} {i o : ℕ} (h : FitInv F G s i o) where
-  module _ (l : size_of F ≤ length s - o) (w : Went) (e : w ≡ went_in F (drop o s)) where
-    fit-now : (b : Bool) → fits G i w ≡ b → unfit G 0 (wents_in F s) ≡ cond b (unfit G (i + 1) (rest F s (i + 1) (o + size_of F))) i
-    fit-now b f =
-        h.same
-        ∙ ap (unfit G i) (rest_more F s i o h.i≤ h.o≤ l)
-        ∙ unfit-one G i (went_in F (drop o s)) (rest F s (i + 1) (o + size_of F))
-        ∙ ap (λ (c : Bool). cond c (unfit G (i + 1) (rest F s (i + 1) (o + size_of F))) i) (ap (fits G i) (sym e) ∙ f)
+module _ {G : Shape} {all : List Went} {i x : ℕ} {w : Went} {ws us : List Went} (h : FitInv G all i ws) (e : ws ≡ w ∷ us) (q : x ≡ i) where
+  fit-now : (b : Bool) → fits G x w ≡ b → unfit G 0 all ≡ cond b (unfit G (x + 1) us) x
+  fit-now b f = h.same ∙ ap (λ (m : ℕ). unfit G m ws) (sym q) ∙ ap (unfit G x) e ∙ unfit-one G x w us ∙ ap (λ (c : Bool). cond c (unfit G (x + 1) us) x) f
 
-    pub fit-bad : fits G i w ≡ false → i ≡ unfit G 0 (wents_in F s)
-    fit-bad f = sym (fit-now false f)
+  pub fit-bad : fits G x w ≡ false → x ≡ unfit G 0 all
+  fit-bad f = sym (fit-now false f)
 
-    pub fit_on : fits G i w ≡ true → FitInv F G s (i + 1) (o + size_of F)
-    fit_on f = record { i≤ = omega (arith, h.i≤); o≤ = omega (arith, h.o≤); same = fit-now true f }
+  pub fit_on : {j : ℕ} → j ≡ i + 1 → fits G x w ≡ true → FitInv G all j us
+  fit_on {j} p f =
+      let m : x + 1 ≡ j = omega arith in
+      record { same = fit-now true f ∙ ap (λ (y : ℕ). unfit G y us) m; count = omega (arith, h.count, ap length e) }
 
-  pub fit-end : length s - o < size_of F → i ≡ unfit G 0 (wents_in F s)
-  fit-end l = sym (h.same ∙ ap (unfit G i) (rest-none F s i o h.i≤ l) ∙ unfit-none G i)
+pub fit-end : {G : Shape} {all : List Went} {i m : ℕ} {ws : List Went} → FitInv G all i ws → ws ≡ [] → m ≡ length all → m ≡ unfit G 0 all
+fit-end {G} {all} {i} h e q = let k : i ≡ length all = omega (arith, h.count, ap length e) in q ∙ sym k ∙ sym (h.same ∙ ap (unfit G i) e ∙ unfit-none G i)
 
 -- writing them
 file-is : (G : Shape) (ws : List Went) → file_of G ws ≡ records_from G 0 ws
 unfolding file_of
 file-is G ws = refl
 
-pub record FileInv (F G : Shape) (s d₀ d : List ℕ) (i o p : ℕ) : Type 0 where
-  pub i≤ : i ≤ o
-  pub o≤ : o ≤ length s
-  pub writing : Writing 0 (file_of G (wents_in F s)) (records_from G i (rest F s i o)) d₀ d p
+pub record FileInv (all : List ℕ) (G : Shape) (i : ℕ) (ws : List Went) (d₀ d : List ℕ) (p : ℕ) : Type 0 where
+  pub writing : Writing 0 all (records_from G i ws) d₀ d p
 
-pub file-start : (F G : Shape) (s d : List ℕ) → length (file_of G (wents_in F s)) ≤ length d → FileInv F G s d d 0 0 0
-file-start F G s d h = record { i≤ = omega arith; o≤ = omega arith; writing = writing-as (first ∙ ap (records_from G 0) (rest-start F s)) (writing_start 0 (file_of G (wents_in F s)) d (omega arith)) }
-  where
-    first : file_of G (wents_in F s) ≡ records_from G 0 (wents_in F s)
-    first = file-is G (wents_in F s)
+pub file-begin : (G : Shape) (all : List Went) (i : ℕ) (d : List ℕ) (ws : List Went) → length (file_of G all) ≤ length d → i ≡ 0 → ws ≡ all → FileInv (file_of G all) G i ws d d 0
+file-begin G all i d ws h q e =
+    record { writing = writing-as (file-is G all ∙ ap (records_from G 0) (sym e) ∙ ap (λ (m : ℕ). records_from G m ws) (sym q)) (writing_start 0 (file_of G all) d (omega arith)) }
 
 records-one : (G : Shape) (i : ℕ) (w : Went) (ws : List Went) → records_from G i (w ∷ ws) ≡ record_bytes G i w ++ records_from G (i + 1) ws
 unfolding records_from
@@ -609,19 +617,18 @@ records-none : (G : Shape) (i : ℕ) → records_from G i [] ≡ []
 unfolding records_from
 records-none G i = refl
 
-module _ {F G : Shape} {s d₀ d : List ℕ} {i o p : ℕ} (h : FileInv F G s d₀ d i o p) where
-  module _ (l : size_of F ≤ length s - o) (w : Went) (e : w ≡ went_in F (drop o s)) where
-    file-now : Writing 0 (file_of G (wents_in F s)) (record_bytes G i w ++ records_from G (i + 1) (rest F s (i + 1) (o + size_of F))) d₀ d p
-    file-now = writing-as (ap (records_from G i) (rest_more F s i o h.i≤ h.o≤ l) ∙ records-one G i (went_in F (drop o s)) (rest F s (i + 1) (o + size_of F)) ∙ ap (λ (x : Went). record_bytes G i x ++ records_from G (i + 1) (rest F s (i + 1) (o + size_of F))) (sym e)) h.writing
+module _ {all : List ℕ} {G : Shape} {i x p : ℕ} {d₀ d : List ℕ} {w : Went} {ws us : List Went} (h : FileInv all G i ws d₀ d p) (e : ws ≡ w ∷ us) (q : x ≡ i) where
+  file-now : Writing 0 all (record_bytes G x w ++ records_from G (x + 1) us) d₀ d p
+  file-now = writing-as (ap (λ (m : ℕ). records_from G m ws) (sym q) ∙ ap (records_from G x) e ∙ records-one G x w us) h.writing
 
-    pub file-room : p + size_of G ≤ length d
-    file-room = omega (arith, writing-room file-now, length-append (record_bytes G i w) (records_from G (i + 1) (rest F s (i + 1) (o + size_of F))), record-length G i w [])
+  pub file-room : p + size_of G ≤ length d
+  file-room = omega (arith, writing-room file-now, length-append (record_bytes G x w) (records_from G (x + 1) us), record-length G x w [])
 
-    pub file-on : {d' : List ℕ} {r : ℕ} → Wrote d p (record_bytes G i w) d' r → FileInv F G s d₀ d' (i + 1) (o + size_of F) r
-    file-on z = record { i≤ = omega (arith, h.i≤); o≤ = omega (arith, h.o≤); writing = writing-put file-now z }
+  pub file-on : {j : ℕ} → j ≡ i + 1 → {d' : List ℕ} {r : ℕ} → Wrote d p (record_bytes G x w) d' r → FileInv all G j us d₀ d' r
+  file-on {j} t z = let m : x + 1 ≡ j = omega arith in record { writing = writing-as (ap (λ (y : ℕ). records_from G y us) m) (writing-put file-now z) }
 
-  pub file-end : length s - o < size_of F → Wrote d₀ 0 (file_of G (wents_in F s)) d p
-  file-end l = writing-end (writing-as (ap (records_from G i) (rest-none F s i o h.i≤ l) ∙ records-none G i) h.writing)
+pub file-end : {all : List ℕ} {G : Shape} {i p : ℕ} {d₀ d : List ℕ} {ws : List Went} → FileInv all G i ws d₀ d p → ws ≡ [] → Wrote d₀ 0 all d p
+file-end {G = G} {i = i} h e = writing-end (writing-as (ap (records_from G i) e ∙ records-none G i) h.writing)
 
 -- how many there are
 wents-length : (F : Shape) (n : ℕ) (s : List ℕ) → size_of F * length (wents_from F n s) ≤ length s

@@ -1,7 +1,9 @@
 // Reads record files: checks them, answers which lines are behind an output line, and turns them into the other form.
 #![tactic(auto)]
 
-ghost use Rattle.std.specs.Prelude.{◌≡◌, cond, ◌≤◌, ◌<◌, ◌+◌, ◌*◌, eqb, length, get_or, set, take, drop, replicate};
+mod each;
+
+ghost use Rattle.std.specs.Prelude.{◌≡◌, ◌≤◌, ◌<◌, ◌+◌, ◌*◌, length, get_or, set, take, drop};
 ghost use Rattle.lines.specs.Lf.{word};
 ghost use Rattle.lines.specs.Inner.Out.{Wrote};
 ghost use Rattle.origins.specs.declared.Went.TheVariants.{Away};
@@ -207,6 +209,7 @@ pub fn check(f: origins::Form, file: &[u8]) -> Reply
     let z = origins::size_of(f);
     let mut i = 0;
     let mut o = 0;
+    // Kept: the place moves by the size of a record, and the bytes of a last record that is cut are looked at too.
     while o < file.len() {
         let c = fault_at(f, file, i, o);
         if c != 0 {
@@ -267,17 +270,7 @@ fn is_in(w: origins::Went, n: usize) -> bool
     }
 }
 
-// 1 for such a line, 0 for another.
-fn one_in(w: origins::Went, n: usize) -> usize
-    ensures { result ≡ cond (is_in n w) 1 0 }
-{
-    if is_in(w, n) {
-        return 1;
-    }
-    0
-}
-
-// Writes the number of such a line, and returns the place after it.
+// Writes the number of line `i`, where it is in output line `n`, and returns the place after it.
 fn put_in(room: &mut [usize], k: usize, i: usize, w: origins::Went, n: usize) -> usize
     requires { k + length (one_in n i w) ≤ length room.old }
     ensures { Wrote room.old k (one_in n i w) room.new result }
@@ -293,16 +286,7 @@ fn put_in(room: &mut [usize], k: usize, i: usize, w: origins::Went, n: usize) ->
 fn count_behind(f: origins::Form, file: &[u8], n: usize) -> usize
     ensures { result ≡ length (behind n (wents_in (form_shape f) file.now)) }
 {
-    let z = origins::size_of(f);
-    let mut o = 0;
-    let mut k = 0;
-    while z <= file.len() - o {
-        let w = went_at(f, file, o);
-        let a = one_in(w, n);
-        k += a;
-        o += z;
-    }
-    k
+    each::each(f, file).filter(|w| is_in(*w, n)).count()
 }
 
 // Writes the lines that are in output line `n`, and returns how many.
@@ -310,15 +294,9 @@ fn put_behind(f: origins::Form, file: &[u8], n: usize, room: &mut [usize]) -> us
     requires { length (behind n (wents_in (form_shape f) file.now)) ≤ length room.old }
     ensures { Wrote room.old 0 (behind n (wents_in (form_shape f) file.now)) room.new result }
 {
-    let z = origins::size_of(f);
-    let mut i = 0;
-    let mut o = 0;
     let mut k = 0;
-    while z <= file.len() - o {
-        let w = went_at(f, file, o);
+    for (i, w) in each::each(f, file).enumerate() {
         k = put_in(room, k, i, w, n);
-        i += 1;
-        o += z;
     }
     k
 }
@@ -450,23 +428,17 @@ fn fits_in(g: origins::Form, i: usize, w: origins::Went) -> bool
     }
 }
 
-// The first record of a file that cannot be written in a form, or how many there are.
-fn unfit_at(f: origins::Form, g: origins::Form, file: &[u8]) -> usize
+// The first of the `m` records of a file that cannot be written in a form, or how many there are.
+fn unfit_at(f: origins::Form, g: origins::Form, file: &[u8], m: usize) -> usize
+    requires { m ≡ length (wents_in (form_shape f) file.now) }
     ensures { result ≡ unfit (form_shape g) 0 (wents_in (form_shape f) file.now) }
 {
-    let z = origins::size_of(f);
-    let mut i = 0;
-    let mut o = 0;
-    while z <= file.len() - o {
-        let w = went_at(f, file, o);
-        if fits_in(g, i, w) {
-            i += 1;
-            o += z;
-        } else {
+    for (i, w) in each::each(f, file).enumerate() {
+        if !fits_in(g, i, w) {
             return i;
         }
     }
-    i
+    m
 }
 
 // Writes the records of a file in a form, and returns the place after them.
@@ -474,15 +446,9 @@ fn put_file(f: origins::Form, g: origins::Form, file: &[u8], out: &mut [u8]) -> 
     requires { length (file_of (form_shape g) (wents_in (form_shape f) file.now)) ≤ length out.old }
     ensures { Wrote out.old 0 (file_of (form_shape g) (wents_in (form_shape f) file.now)) out.new result }
 {
-    let z = origins::size_of(f);
-    let mut i = 0;
-    let mut o = 0;
     let mut p = 0;
-    while z <= file.len() - o {
-        let w = went_at(f, file, o);
+    for (i, w) in each::each(f, file).enumerate() {
         p = origins::put_record(out, p, g, i, w);
-        i += 1;
-        o += z;
     }
     p
 }
@@ -493,7 +459,7 @@ fn answer_turn(f: origins::Form, g: origins::Form, file: &[u8], m: usize, out: &
     ensures answer { result ≡ turned_reply (turn_by (form_shape g) (length out.old) (says (wents_in (form_shape f) file.now))) }
     ensures memory { out.new ≡ turned_after (turn_by (form_shape g) (length out.old) (says (wents_in (form_shape f) file.now))) out.old }
 {
-    let u = unfit_at(f, g, file);
+    let u = unfit_at(f, g, file, m);
     if u < m {
         return Reply::Unfit(u);
     }

@@ -1,27 +1,18 @@
-use native.Mathlib.Omega.{arith}
-use Rattle.reader.proofs.Laws.{count-start, count-on, count-end, one-le}
+use Rattle.std.proofs.Common.{rules, ◌≡◌, ◌∙◌, length}
+use Rattle.std.specs.Prelude.{filter}
+use Rattle.std.proofs.lemmas.Iterator.Consumers.{YieldsList-from_first, YieldsList-from_filter, count_from_yields_List}
+use Rattle.origins.specs.Form.{form_shape}
+use Rattle.origins.specs.Answers.{is_in}
+use Rattle.reader.specs.Replies.{wents_in}
+use Rattle.reader.specs.Inner.Each.{left}
+use Rattle.reader.proofs.Laws.{behind-filter, each-all}
 use Rattle.reader.proofs.count_behind.Goals as goal
 
-pub loop-o-init : goal.loop-o-init
-loop-o-init c = count-start _ _ _
-
-pub overflow_sub-file : goal.overflow_sub-file
-overflow_sub-file c = c.loop-o.invariant.o≤
-
-pub went_at-w-requires : goal.went_at-w-requires
-went_at-w-requires c = omega (arith, c.size_of-z.ensures, c.loop-o-test.true, c.loop-o.invariant.o≤)
-
-pub overflow_add-k : goal.overflow_add-k
-overflow_add-k c = omega (arith, one-le c.args.n c.one_in-a.result c.went_at-w.result c.one_in-a.ensures, c.loop-o.invariant.k≤, c.loop-o.invariant.i≤, c.loop-o.invariant.o≤)
-
-pub overflow_add-o : goal.overflow_add-o
-overflow_add-o c = omega (arith, c.size_of-z.ensures, c.loop-o-test.true, c.loop-o.invariant.o≤)
-
-pub loop-o-smaller : goal.loop-o-smaller
-loop-o-smaller c = omega (arith, c.size_of-z.ensures, c.loop-o-test.true, c.loop-o.invariant.o≤)
-
-pub loop-o-preserved : goal.loop-o-preserved
-loop-o-preserved c = rw c.size_of-z.ensures (count-on c.loop-o.invariant (omega (arith, c.size_of-z.ensures, c.loop-o-test.true)) _ _ c.went_at-w.ensures c.one_in-a.ensures)
-
 pub returns : goal.returns
-returns c = count-end c.loop-o.invariant (omega (arith, c.size_of-z.ensures, c.loop-o-test.false))
+returns c =
+    let a = c.args in
+    let ws = wents_in (form_shape a.f) a.file.now in
+    let e : c.count.result ≡ length (filter (is_in a.n) ws) =
+    count_from_yields_List _ _ c.count.ensures.ran
+    (YieldsList-from_filter _ (is_in a.n) (YieldsList-from_first (λ x. x) left ws (each-all a.f a.file.now c.filter.ensures.source c.each.ensures.form c.each.ensures.bytes)) c.filter.ensures.closure (λ x b q k. search rules)) in
+    e ∙ behind-filter a.n ws

@@ -1,6 +1,5 @@
-use mathlib.Core.Path.{◌∙◌}
 use native.Mathlib.Omega.{arith}
-use Rattle.reader.proofs.ChainLaws.{fill-length, fill-own, chain-start, chain-firsts, chain-nexts, chain-on, chain-end}
+use Rattle.reader.proofs.ChainLaws.{fill-length, fill-own, chain-start, chain-nexts, chain-on, chain-end}
 use Rattle.reader.proofs.link_all.Goals as goal
 
 pub loop-i-init : goal.loop-i-init

@@ -1,34 +1,22 @@
-use native.Mathlib.Omega.{arith}
-use Rattle.lines.proofs.OutLaws.{writing-length}
-use Rattle.reader.proofs.Laws.{behind-begin, behind-room, behind-on, behind-end}
+use Rattle.std.proofs.Common.{◌∙◌, ap}
+use Rattle.origins.specs.Form.{form_shape}
+use Rattle.reader.specs.Replies.{wents_in}
+use Rattle.reader.proofs.Laws.{behind-begin, behind-room, behind-on, behind-end, each-all}
 use Rattle.reader.proofs.put_behind.Goals as goal
 
-pub loop-o-init : goal.loop-o-init
-loop-o-init c = behind-begin _ _ _ _ c.requires
-
-pub overflow_sub-file : goal.overflow_sub-file
-overflow_sub-file c = c.loop-o.invariant.o≤
-
-pub went_at-w-requires : goal.went_at-w-requires
-went_at-w-requires c = omega (arith, c.size_of-z.ensures, c.loop-o-test.true, c.loop-o.invariant.o≤)
+pub loop-i-init : goal.loop-i-init
+loop-i-init c =
+    let a = c.args in
+    let it = c.into_iter-i-iterator.ensures.into_iter_gives in
+    let e = c.enumerate-i-items.ensures in
+    behind-begin (wents_in (form_shape a.f) a.file.now) a.n _ a.room.now _ c.requires (ap (λ s. s.count) it ∙ e.count)
+    (each-all a.f a.file.now (ap (λ s. s.iter) it ∙ e.source) c.each.ensures.form c.each.ensures.bytes)
 
 pub put_in-k-requires : goal.put_in-k-requires
-put_in-k-requires c = behind-room c.loop-o.invariant (omega (arith, c.size_of-z.ensures, c.loop-o-test.true)) _ c.went_at-w.ensures
+put_in-k-requires c = let h = c.in-Some.ensures.steps in behind-room c.loop-i.invariant h.0 h.1
 
-pub overflow_add-i : goal.overflow_add-i
-overflow_add-i c = omega (arith, c.loop-o.invariant.i≤, c.loop-o.invariant.o≤)
-
-pub overflow_add-o : goal.overflow_add-o
-overflow_add-o c = omega (arith, c.size_of-z.ensures, c.loop-o-test.true, c.loop-o.invariant.o≤)
-
-pub loop-o-smaller : goal.loop-o-smaller
-loop-o-smaller c = omega (arith, c.size_of-z.ensures, c.loop-o-test.true, c.loop-o.invariant.o≤)
-
-pub loop-o-preserved : goal.loop-o-preserved
-loop-o-preserved c = rw c.size_of-z.ensures (behind-on c.loop-o.invariant (omega (arith, c.size_of-z.ensures, c.loop-o-test.true)) _ c.went_at-w.ensures c.put_in-k.ensures)
-
-pub shape_of-room : goal.shape_of-room
-shape_of-room c = writing-length c.loop-o.invariant.writing
+pub loop-i-preserved : goal.loop-i-preserved
+loop-i-preserved c = let h = c.in-Some.ensures.steps in behind-on c.loop-i.invariant h.0 h.1 h.2 c.put_in-k.ensures
 
 pub returns : goal.returns
-returns c = behind-end c.loop-o.invariant (omega (arith, c.size_of-z.ensures, c.loop-o-test.false))
+returns c = behind-end c.loop-i.invariant c.in-None.ensures.steps.0.0

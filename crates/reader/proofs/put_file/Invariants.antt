@@ -1,11 +1,8 @@
-use Prim.Native.Nat.{◌-◌}
-use lib.ListN.{length}
-use Rattle.origins.specs.Form.{form_shape}
+use Rattle.origins.specs.Form.{form_shape, file_of}
+use Rattle.reader.specs.Replies.{wents_in}
+use Rattle.reader.specs.Inner.Each.{left}
 use Rattle.reader.proofs.Laws.{FileInv}
 use Rattle.reader.proofs.put_file.Given as goal
 
-abbrev pub invariant-loop-o : goal.invariant-loop-o
-invariant-loop-o l = FileInv (form_shape l.f) (form_shape l.g) l.file l.initial.out l.out l.i l.o l.p
-
-abbrev pub decreases-loop-o : goal.decreases-loop-o
-decreases-loop-o l = length l.file - l.o
+abbrev pub invariant-loop-i : goal.invariant-loop-i
+invariant-loop-i l = let it = l.i-iterator in FileInv (file_of (form_shape l.g) (wents_in (form_shape l.fn.f) l.file)) (form_shape l.g) it.count (left it.iter) l.initial.out l.out l.p

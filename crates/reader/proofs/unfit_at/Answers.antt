@@ -1,31 +1,23 @@
-use native.Mathlib.Omega.{arith}
+use Rattle.std.proofs.Common.{◌∙◌, ap}
 use Rattle.lines.proofs.Tests.{so}
-use Rattle.reader.proofs.Laws.{fit-start, fit-bad, fit_on, fit-end}
+use Rattle.origins.specs.Form.{form_shape}
+use Rattle.reader.specs.Replies.{wents_in}
+use Rattle.reader.proofs.Laws.{fit-begin, fit-bad, fit_on, fit-end, each-all}
 use Rattle.reader.proofs.unfit_at.Goals as goal
 
-pub loop-o-init : goal.loop-o-init
-loop-o-init c = fit-start _ _ _
+pub loop-i-init : goal.loop-i-init
+loop-i-init c =
+    let a = c.args in
+    let it = c.into_iter-i-iterator.ensures.into_iter_gives in
+    let e = c.enumerate-i-items.ensures in
+    fit-begin (form_shape a.g) (wents_in (form_shape a.f) a.file.now) (ap (λ s. s.count) it ∙ e.count)
+    (each-all a.f a.file.now (ap (λ s. s.iter) it ∙ e.source) c.each.ensures.form c.each.ensures.bytes)
 
-pub overflow_sub-file : goal.overflow_sub-file
-overflow_sub-file c = c.loop-o.invariant.o≤
+pub returns-then-not-fits_in : goal.returns-then-not-fits_in
+returns-then-not-fits_in c = let h = c.in-Some.ensures.steps in fit-bad c.loop-i.invariant h.0 h.1 (so c.fits_in.ensures c.if-not-fits_in.true)
 
-pub went_at-w-requires : goal.went_at-w-requires
-went_at-w-requires c = omega (arith, c.size_of-z.ensures, c.loop-o-test.true, c.loop-o.invariant.o≤)
-
-pub overflow_add-i : goal.overflow_add-i
-overflow_add-i c = omega (arith, c.loop-o.invariant.i≤, c.loop-o.invariant.o≤)
-
-pub overflow_add-o : goal.overflow_add-o
-overflow_add-o c = omega (arith, c.size_of-z.ensures, c.loop-o-test.true, c.loop-o.invariant.o≤)
-
-pub loop-o-smaller : goal.loop-o-smaller
-loop-o-smaller c = omega (arith, c.size_of-z.ensures, c.loop-o-test.true, c.loop-o.invariant.o≤)
-
-pub loop-o-preserved : goal.loop-o-preserved
-loop-o-preserved c = rw c.size_of-z.ensures (fit_on c.loop-o.invariant (omega (arith, c.size_of-z.ensures, c.loop-o-test.true)) _ c.went_at-w.ensures (so c.fits_in.ensures c.if-fits_in.true))
-
-pub returns-else-fits_in : goal.returns-else-fits_in
-returns-else-fits_in c = fit-bad c.loop-o.invariant (omega (arith, c.size_of-z.ensures, c.loop-o-test.true)) _ c.went_at-w.ensures (so c.fits_in.ensures c.if-fits_in.false)
+pub loop-i-preserved : goal.loop-i-preserved
+loop-i-preserved c = let h = c.in-Some.ensures.steps in fit_on c.loop-i.invariant h.0 h.1 h.2 (so c.fits_in.ensures c.if-not-fits_in.false)
 
 pub returns : goal.returns
-returns c = fit-end c.loop-o.invariant (omega (arith, c.size_of-z.ensures, c.loop-o-test.false))
+returns c = fit-end c.loop-i.invariant c.in-None.ensures.steps.0.0 c.requires
