@@ -1,5 +1,5 @@
 -- Our words for the first b and for how many there are, as std says them of a chain of iterators. Assumes nothing.
-use Rattle.std.proofs.Common.{◌≡◌, ℕ, zero, suc, ◌+◌, ◌<◌, ◌≤◌, Bool, true, false, cond, not, ◌||◌, ◌==◌, List, [], ◌∷◌, length, refl, sym, ◌∙◌, arith}
+use Rattle.std.proofs.Common.{◌≡◌, ℕ, ◌≤◌, Bool, true, false, cond, not, ◌||◌, ◌==◌, List, [], ◌∷◌, length, refl, sym, ◌∙◌, arith}
 use Rattle.std.specs.Prelude.{position, count_by, unwrap_or, None, Some, nat_lt, nat_eq}
 use Rattle.lines.specs.Inner.Lf.{lacks}
 use Rattle.std.specs.List.{list_all, list_any, position_or_len, starts_with}

@@ -14,9 +14,6 @@ returns-then-starts_with c =
     let l = c.loop-i in
     sym (hold-here a.p.now a.s.now l.i (sym c.starts_with.ensures ∙ c.if-starts_with.true)) ∙ l.invariant
 
-pub loop-i-smaller : goal.loop-i-smaller
-loop-i-smaller c = omega (arith, c.find_byte-i-in-loop-i.ensures)
-
 pub loop-i-preserved : goal.loop-i-preserved
 loop-i-preserved c =
     let a = c.args in

@@ -1,16 +1,6 @@
-use Rattle.std.proofs.Common.{◌-◌, length, sym, ◌∙◌, arith, length-take-le}
-use Rattle.lines.proofs.StepLaws.{ends_some}
+use Rattle.std.proofs.Common.{sym, ◌∙◌}
 use Rattle.lines.proofs.JoinLaws.{joined_end, joined_length}
 use Rattle.lines.proofs.joined_len.Goals as goal
-
-pub slice_bounds-ends_lf-count : goal.slice_bounds-ends_lf-count
-slice_bounds-ends_lf-count c = ends_some c.args.lf.now (sym c.ends_lf.ensures ∙ c.if-ends_lf.true)
-
-pub slice_bounds-ends_lf-length : goal.slice_bounds-ends_lf-length
-slice_bounds-ends_lf-length c = let u = c.args.lf.now in sym (length-take-le (length u - 1) u (omega arith))
-
-pub overflow_sub-result : goal.overflow_sub-result
-overflow_sub-result c = ends_some c.args.lf.now (sym c.ends_lf.ensures ∙ c.if-ends_lf.true)
 
 pub returns-then-ends_lf-2 : goal.returns-then-ends_lf-2
 unfolding joined_end
@@ -19,9 +9,6 @@ returns-then-ends_lf-2 c = let a = c.args in sym (joined_length a.ended a.lf.now
 pub returns-then-ended : goal.returns-then-ended
 unfolding joined_end
 returns-then-ended c = let a = c.args in sym (joined_length a.ended a.lf.now ∙ rw (sym c.ends_lf.ensures ∙ c.if-ends_lf.true, c.if-ended.true, sym c.ends_lf-then-ended.ensures ∙ c.if-ends_lf-2.false))
-
-pub overflow_sub-result-then-ends_lf : goal.overflow_sub-result-then-ends_lf
-overflow_sub-result-then-ends_lf c = ends_some c.args.lf.now (sym c.ends_lf.ensures ∙ c.if-ends_lf.true)
 
 pub returns-then-ends_lf : goal.returns-then-ends_lf
 unfolding joined_end

@@ -1,4 +1,4 @@
-use Rattle.std.proofs.Common.{Bool, not, ap, ◌∙◌}
+use Rattle.std.proofs.Common.{not, ap, ◌∙◌}
 use Rattle.lines.proofs.Chains.{lacks_is_none}
 use Rattle.lines.proofs.lacks.Goals as goal
 

@@ -1,15 +1,6 @@
-use Rattle.std.proofs.Common.{◌-◌, length, drop, sym, arith, length-drop, length-take-le, take_all}
+use Rattle.std.proofs.Common.{◌-◌, length, drop, arith, length-drop, take_all}
 use Rattle.lines.proofs.OutLaws.{wrote-over, wrote_as}
 use Rattle.lines.proofs.put_pairs.Goals as goal
-
-pub slice_bounds-put_pair-end : goal.slice_bounds-put_pair-end
-slice_bounds-put_pair-end c = sym (length-take-le 16 c.args.t.now c.requires.1.0)
-
-pub put_pair-requires : goal.put_pair-requires
-put_pair-requires c =
-    let p = c.requires in
-    let l = length-take-le 16 c.args.t.now p.1.0 in
-    (omega (arith, l, p.0, p.1.0), (omega (arith, l), omega (arith, l)))
 
 pub returns : goal.returns
 returns c =
