@@ -2,8 +2,7 @@
 use Prim.Native.Nat.{ℕ}
 use mathlib.Core.Path.{◌≡◌, ap, sym, ◌∙◌}
 use mathlib.Core.List.{List}
-use Rattle.pruned.specs.declared.Judged.{Judged}
-use Rattle.pruned.specs.Judged.{judged_size, live_size, judged_after}
+use Rattle.pruned.specs.Judged.{Judged, judged_size, live_size, judged_after}
 use Rattle.pruned.proofs as pruned
 use Rattle.pruned.specs.contracts as said
 use Rattle.determined.proofs.Outcomes.{Determined, fixed, fixed-by, one, more}

@@ -124,11 +124,11 @@ place_in : ℕ → Utf8 → ℕ
 place_in d (Ok tt) = d
 place_in d (Err j) = j
 
-bad-same : (i j : ℕ) → Err i ≡ Err j → i ≡ j
+bad-same : (i j : ℕ) → ◌≡◌ {A = Utf8} (Err i) (Err j) → i ≡ j
 unfolding place_in
 bad-same i j e = ap (place_in i) e
 
-valid-bad : {A : Type 0} (i : ℕ) → (Ok tt) ≡ Err i → A
+valid-bad : {A : Type 0} (i : ℕ) → ◌≡◌ {A = Utf8} (Ok tt) (Err i) → A
 valid-bad i e = bad-valid i (sym e)
 
 -- the bad place is in the list

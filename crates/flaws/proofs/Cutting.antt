@@ -141,7 +141,7 @@ pub scan-by : (i x : ℕ) (xs : List ℕ) (n : ℕ) → seq_len (x ∷ xs) ≡ n
 unfolding scan
 scan-by i x xs n e = ap (λ (m : ℕ). bad_or m i (λ k. scan k (suc i) xs)) e
 
-pub bad-valid : {A : Type 0} (i : ℕ) → Err i ≡ Ok tt → A
+pub bad-valid : {A : Type 0} (i : ℕ) → ◌≡◌ {A = Utf8} (Err i) (Ok tt) → A
 bad-valid {A} i e = no (ap is_bad e)
   where
     is_bad : Utf8 → Bool

@@ -50,7 +50,7 @@ each-by x [] i f = none_in [] refl i
 each-by x (d ∷ cs) here f = f d here refl
 each-by x (d ∷ cs) (there i) f = each-by x cs i (λ e k q. f e (there k) q)
 
-reg-not : {A : Type 0} (v : ℕ) → None ≡ Some (record { 0 = v }) → A
+reg-not : {A : Type 0} (v : ℕ) → ◌≡◌ {A = Option Register} None (Some (record { 0 = v })) → A
 reg-not v e = no (ap is_reg e)
 
 abbrev value_of : Option Register → ℕ

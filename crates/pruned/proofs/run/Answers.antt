@@ -1,5 +1,6 @@
+use Prim.Native.Nat.{ℕ}
 use Rattle.pruned.specs.Judged.{by_verdict}
-use Rattle.pruned.specs.declared.Verdict.{Verdict}
+use Rattle.std.specs.declared.option.Option.{Option}
 use mathlib.Core.Path.{sym, ap, ◌∙◌}
 use Rattle.pruned.proofs.EntryCode.{stated, same-part, wiped-part}
 use Rattle.pruned.proofs.run.Goals as goal
@@ -47,4 +48,4 @@ pub returns : goal.returns
 returns c =
     let s = c in
     let w = c.work-v.ensures in
-    record { answer = c.by_verdict.ensures ∙ ap (λ (x : Verdict). by_verdict x) w.answer; memory = ((wiped-part 16385 s.args.a.now w.memory.0.0, wiped-part 16385 s.args.b.now w.memory.0.1), (wiped-part 16385 s.args.c.now w.memory.1.0, wiped-part 1025 s.args.live.now w.memory.1.1)) }
+    record { answer = c.by_verdict.ensures ∙ ap (λ (x : Option ℕ). by_verdict x) w.answer; memory = ((wiped-part 16385 s.args.a.now w.memory.0.0, wiped-part 16385 s.args.b.now w.memory.0.1), (wiped-part 16385 s.args.c.now w.memory.1.0, wiped-part 1025 s.args.live.now w.memory.1.1)) }
