@@ -3,7 +3,8 @@ use mathlib.Core.Path.{sym, ◌∙◌}
 use Rattle.lines.proofs.OutLaws.{wrote-once}
 use Rattle.lexical.proofs as lexical
 use Rattle.lexical.specs.contracts as said
-use Rattle.determined.proofs.Outcomes.{Determined, fixed}
+use Rattle.lexical.specs.Inner.Words.{words_left}
+use Rattle.determined.proofs.Outcomes.{Determined, fixed, pair-same}
 
 pub token-at-fixed : Determined said.token_at.ended (λ κs z. z) lexical.token_at.Reads.ensures
 token-at-fixed = fixed lexical.token_at.Reads.Learnt (λ κs a x y l m. l ∙ sym m)
@@ -46,3 +47,10 @@ front-tail-fixed = fixed lexical.front_tail.Reads.Learnt (λ κs a x y l m. l �
 
 pub rest-in-fixed : Determined said.rest_in.ended (λ κs z. z) lexical.rest_in.Reads.ensures
 rest-in-fixed = fixed lexical.rest_in.Reads.Learnt (λ κs a x y l m. l ∙ sym m)
+
+-- the iterators: what they go over, and where they stand
+pub idents-each-fixed : Determined said.idents.each.ended (λ κs z. words_left z) lexical.idents.each.Reads.ensures
+idents-each-fixed = fixed lexical.idents.each.Reads.Learnt (λ κs a x y l m. l ∙ sym m)
+
+pub tokens-each-fixed : Determined said.tokens.each.ended (λ κs z. (z.text.now, (z.at, z.tail))) lexical.tokens.each.Reads.ensures
+tokens-each-fixed = fixed lexical.tokens.each.Reads.Learnt (λ κs a x y l m. pair-same (l.0 ∙ sym m.0) (pair-same (l.1.0 ∙ sym m.1.0) (l.1.1 ∙ sym m.1.1)))

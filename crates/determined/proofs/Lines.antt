@@ -3,7 +3,8 @@ use mathlib.Core.Path.{refl, sym, ◌∙◌}
 use Rattle.lines.proofs.OutLaws.{wrote-once}
 use Rattle.lines.proofs as lines
 use Rattle.lines.specs.contracts as said
-use Rattle.determined.proofs.Outcomes.{Determined, fixed}
+use Rattle.lines.specs.Inner.Pieces.{pieces_left}
+use Rattle.determined.proofs.Outcomes.{Determined, fixed, pair-same}
 
 pub byte-at-fixed : Determined said.byte_at.ended (λ κs z. z) lines.byte_at.Reads.ensures
 byte-at-fixed = fixed lines.byte_at.Reads.Learnt (λ κs a x y l m. l ∙ sym m)
@@ -76,3 +77,13 @@ join-lines-fixed = fixed lines.join_lines.Reads.Learnt (λ κs a x y l m. wrote-
 
 pub put-lines-fixed : Determined said.put_lines.ended (λ κs z. z) lines.put_lines.Reads.ensures
 put-lines-fixed = fixed lines.put_lines.Reads.Learnt (λ κs a x y l m. wrote-once l m)
+
+-- the iterators: what they go over, and where they stand
+pub pieces-fixed : Determined said.between.pieces.ended (λ κs z. pieces_left z) lines.between.pieces.Reads.ensures
+pieces-fixed = fixed lines.between.pieces.Reads.Learnt (λ κs a x y l m. l ∙ sym m)
+
+pub each-each-fixed : Determined said.each.each.ended (λ κs z. (z.text.now, z.at)) lines.each.each.Reads.ensures
+each-each-fixed = fixed lines.each.each.Reads.Learnt (λ κs a x y l m. pair-same (l.0 ∙ sym m.0) (l.1 ∙ sym m.1))
+
+pub from-fixed : Determined said.each.from.ended (λ κs z. (z.text.now, z.at)) lines.each.from.Reads.ensures
+from-fixed = fixed lines.each.from.Reads.Learnt (λ κs a x y l m. pair-same (l.0 ∙ sym m.0) (l.1 ∙ sym m.1))

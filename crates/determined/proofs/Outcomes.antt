@@ -1,6 +1,6 @@
 -- What it is for a contract to fix the outcome of a call. Each library has a file of its own here, with one theorem for each of its public functions. Assumes nothing.
 use Prim.Native.Nat.{ℕ}
-use mathlib.Core.Path.{◌≡◌, refl}
+use mathlib.Core.Path.{◌≡◌, refl, ap, ◌∙◌}
 use mathlib.Core.List.{List, [], ◌∷◌}
 use base.Logic.{ent, sep, id⊢, via, fst∗, snd∗}
 use contract.Monad.{fact, fact_i, fact_use}
@@ -98,3 +98,7 @@ pub fixed : {T : Ended} {X : Type 0} {see : (κs : Lives T) → Res T.signature 
     ((κs : Lives T) (a : Args T.signature κs) (x y : Outcome T κs a) → Met T c κs a x → Met T c κs a y →
     AllOf (equations κs T.signature.params T.kept a x.lasts y.lasts ((see κs x.answer ≡ see κs y.answer) ∷ []))) → Determined T see (λ κs a g z s w. fact w.𝓤 (c κs a z s))
 fixed c f = fixed-by c (λ w κs a x. one w) f
+
+-- two pairs with the same halves are the same
+pub pair-same : {A B : Type 0} {a c : A} {b d : B} → a ≡ c → b ≡ d → ◌≡◌ {A = A × B} (a, b) (c, d)
+pair-same {A} {B} {c = c} {b = b} e f = ap (λ (x : A). (x, b)) e ∙ ap (λ (y : B). (c, y)) f
