@@ -4,7 +4,7 @@ use borrow.Author.Tests.{eqb-false}
 use Rattle.lines.specs.Lf.{part, up_to, lines_of, parts_of, prefixed, same, ends_in}
 use Rattle.lines.proofs.Compare.{same-eq, same_refl}
 use Rattle.lines.proofs.Tests.{no, or-true, or-false, and-true, and-false, and_left}
-use Rattle.lines.proofs.LfLaws.{lines-at, lines_end, parts_at, parts-at-end, part-more, part_none}
+use Rattle.lines.proofs.LfLaws.{lines-at, lines_end, part-more, part_none}
 use Rattle.text.specs.Class.{is_name}
 use Rattle.text.specs.Trim.{from_of, to_of, trim_of}
 use Rattle.names.specs.Names.{decimal, temp_word, read_number, is_temp}
@@ -497,44 +497,29 @@ module _ (own : List ℕ) where
       go None q h = flag-not b h
       go (Some n) q h = at n q (ltb (slot_of (length d) own n) (length d)) refl h
 
-  -- ---- the loop over pieces: those from i on are still to be flagged
+  -- ---- the loop over pieces: those that are left are still to be flagged
 
-  pub record PiecesInv (s d₀ d : List ℕ) (i : ℕ) : Type 0 where
-    pub i≤ : i ≤ length s
+  pub record PiecesInv (ps left : List (List ℕ)) (d₀ d : List ℕ) : Type 0 where
     pub long : length d ≡ length d₀
-    pub so_far : flag_pieces own (parts_of 44 (drop i s)) d ≡ flag_pieces own (parts_of 44 s) d₀
+    pub so_far : flag_pieces own left d ≡ flag_pieces own ps d₀
 
-  pieces-cons : (l : List ℕ) (ls : List (List ℕ)) (d : List ℕ) → flag_pieces own (l ∷ ls) d ≡ flag_pieces own ls (flag_at own (key_of (trim_of l)) d)
-  unfolding flag_pieces
-  pieces-cons l ls d = refl
+  pub pieces-start : {ps left : List (List ℕ)} (d : List ℕ) → left ≡ ps → PiecesInv ps left d d
+  pieces-start d e = record { long = refl; so_far = ap (λ (qs : List (List ℕ)). flag_pieces own qs d) e }
 
-  pieces-one : (l d : List ℕ) → flag_pieces own (l ∷ []) d ≡ flag_at own (key_of (trim_of l)) d
-  unfolding flag_pieces
-  pieces-one l d = refl
-
-  pub pieces-start : (s d : List ℕ) → PiecesInv s d d 0
-  pieces-start s d = record { i≤ = omega arith; long = refl; so_far = refl }
-
-  module _ {s d₀ d : List ℕ} {i : ℕ} (h : PiecesInv s d₀ d i) (e : ℕ) (q : e ≡ i + up_to 44 (drop i s)) (w t d' : List ℕ) (p : w ≡ part i e s) (z : t ≡ trim_of w) (x : d' ≡ flag_at own (key_of t) d) where
-    piece-flagged : d' ≡ flag_at own (key_of (trim_of (part i e s))) d
-    piece-flagged = x ∙ ap (λ (l : List ℕ). flag_at own (key_of l) d) (z ∙ ap trim_of p)
-
-    pub piece-long : length d' ≡ length d₀
-    piece-long = ap length x ∙ at_length (key_of t) d ∙ h.long
-
-    pub pieces-on : e < length s → PiecesInv s d₀ d' (e + 1)
-    pieces-on k = record {
-      i≤ = omega arith;
-      long = piece-long;
+  module _ {ps left : List (List ℕ)} {d₀ d : List ℕ} (h : PiecesInv ps left d₀ d) where
+    pub pieces-on : {w t d' : List ℕ} {more : List (List ℕ)} → left ≡ w ∷ more → t ≡ trim_of w → d' ≡ flag_at own (key_of t) d → PiecesInv ps more d₀ d'
+    unfolding flag_pieces
+    pieces-on {t = t} {more = more} e z x = record {
+      long = ap length x ∙ at_length (key_of t) d ∙ h.long;
       so_far =
-          ap (flag_pieces own (parts_of 44 (drop (e + 1) s))) piece-flagged
-          ∙ sym (ap (λ (ps : List (List ℕ)). flag_pieces own ps d) (parts_at 44 s i e h.i≤ q k) ∙ pieces-cons (part i e s) (parts_of 44 (drop (e + 1) s)) d)
+          ap (flag_pieces own more) (x ∙ ap (λ (l : List ℕ). flag_at own (key_of l) d) z)
+          ∙ sym (ap (λ (qs : List (List ℕ)). flag_pieces own qs d) e)
           ∙ h.so_far;
     }
 
-    pub pieces_end : length s ≤ e → d' ≡ flag_pieces own (parts_of 44 s) d₀
-    pieces_end k =
-        piece-flagged ∙ sym (ap (λ (ps : List (List ℕ)). flag_pieces own ps d) (parts-at-end 44 s i e h.i≤ q k) ∙ pieces-one (part i e s) d) ∙ h.so_far
+    pub pieces_end : left ≡ [] → d ≡ flag_pieces own ps d₀
+    unfolding flag_pieces
+    pieces_end e = sym (ap (λ (qs : List (List ℕ)). flag_pieces own qs d) e) ∙ h.so_far
 
   -- ---- a declaration
 

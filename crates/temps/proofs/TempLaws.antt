@@ -1,8 +1,8 @@
 -- Laws of dead temps: searches over trimmed pieces, and what one line asks. Assumes nothing.
-use Rattle.std.proofs.Common.{◌≡◌, ℕ, ◌+◌, ◌-◌, ◌<◌, ◌≤◌, min, Bool, true, false, cond, ◌&&◌, ◌||◌, ltb, List, [], ◌∷◌, length, drop, sym, refl, ap, ◌∙◌, arith, ltb-false, ltb-true}
-use Rattle.lines.specs.Lf.{part, up_to, lines_of, parts_of, prefixed, same}
+use Rattle.std.proofs.Common.{◌≡◌, ℕ, ◌-◌, ◌<◌, Bool, true, false, cond, ◌&&◌, ◌||◌, ltb, List, [], ◌∷◌, length, drop, sym, refl, ap, ◌∙◌, arith, ltb-true}
+use Rattle.std.specs.List.{list_any}
+use Rattle.lines.specs.Lf.{prefixed, same}
 use Rattle.lines.proofs.Tests.{and_left, and_right}
-use Rattle.lines.proofs.LfLaws.{lines-at, lines_end, parts_at, parts-at-end}
 use Rattle.text.specs.Trim.{trim_of}
 use Rattle.names.specs.Names.{temp_word, all_digits, is_temp}
 use Rattle.names.proofs.Texts.{temp-names}
@@ -13,58 +13,22 @@ use Rattle.words.proofs.HitLaws.{hits-words}
 use Rattle.reading.specs.Assign.{is_assign, left_of}
 use Rattle.temps.specs.Temps.{any_piece, declares, temp_reads, declared_in, temp_read}
 
--- ---- searches: some text, trimmed, passes a test
+-- ---- searches: some text, trimmed, passes a test, as std says it of a chain
 
-unfoldable pub any_trim : (List ℕ → Bool) → List (List ℕ) → Bool
-any_trim f [] = false
-any_trim f (l ∷ ls) = f (trim_of l) || any_trim f ls
-
-pub piece-any : (x : List ℕ) (ls : List (List ℕ)) → any_piece x ls ≡ any_trim (λ (t : List ℕ). same t x) ls
-unfolding any_piece any_trim
+pub piece-any : (x : List ℕ) (ps : List (List ℕ)) → list_any (λ (p : List ℕ). same (trim_of p) x) ps ≡ any_piece x ps
+unfolding any_piece
 piece-any x [] = refl
-piece-any x (l ∷ ls) = ap (λ (b : Bool). same (trim_of l) x || b) (piece-any x ls)
+piece-any x (p ∷ ps) = ap (λ (b : Bool). same (trim_of p) x || b) (piece-any x ps)
 
-pub declared-any : (x : List ℕ) (ls : List (List ℕ)) → declared_in x ls ≡ any_trim (λ (t : List ℕ). declares x t) ls
-unfolding declared_in any_trim
+pub declared-any : (x : List ℕ) (ls : List (List ℕ)) → list_any (λ (l : List ℕ). declares x (trim_of l)) ls ≡ declared_in x ls
+unfolding declared_in
 declared-any x [] = refl
 declared-any x (l ∷ ls) = ap (λ (b : Bool). declares x (trim_of l) || b) (declared-any x ls)
 
-pub read-any : (x : List ℕ) (ls : List (List ℕ)) → temp_read x ls ≡ any_trim (λ (t : List ℕ). ltb 0 (temp_reads x t)) ls
-unfolding temp_read any_trim
+pub read-any : (x : List ℕ) (ls : List (List ℕ)) → list_any (λ (l : List ℕ). ltb 0 (temp_reads x (trim_of l))) ls ≡ temp_read x ls
+unfolding temp_read
 read-any x [] = refl
 read-any x (l ∷ ls) = ap (λ (b : Bool). ltb 0 (temp_reads x (trim_of l)) || b) (read-any x ls)
-
-any-cons : (f : List ℕ → Bool) (l : List ℕ) (ls : List (List ℕ)) (b : Bool) → f (trim_of l) ≡ b → any_trim f (l ∷ ls) ≡ b || any_trim f ls
-unfolding any_trim
-any-cons f l ls b e = rw e
-
--- down the lines of a text
-module _ (f : List ℕ → Bool) (s : List ℕ) (i e : ℕ) (h : i < length s) (q : e ≡ i + up_to 10 (drop i s)) where
-  pub line-hit : f (trim_of (part i e s)) ≡ true → any_trim f (lines_of (drop i s)) ≡ true
-  line-hit k = ap (any_trim f) (lines-at s i e h q) ∙ any-cons f _ _ true k
-
-  pub line_on : (r : ℕ) → r ≡ min (e + 1) (length s) → f (trim_of (part i e s)) ≡ false → any_trim f (lines_of (drop i s)) ≡ any_trim f (lines_of (drop r s))
-  line_on r z k = ap (any_trim f) (lines-at s i e h q) ∙ any-cons f _ _ false k ∙ ap (λ (n : ℕ). any_trim f (lines_of (drop n s))) (sym z)
-
-pub line-end : (f : List ℕ → Bool) (s : List ℕ) (i : ℕ) → length s ≤ i → any_trim f (lines_of (drop i s)) ≡ false
-unfolding any_trim
-line-end f s i h = ap (any_trim f) (lines_end s i h)
-
--- along the pieces between commas
-module _ (f : List ℕ → Bool) (s : List ℕ) (i e : ℕ) (h : i ≤ length s) (q : e ≡ i + up_to 44 (drop i s)) where
-  pub piece-hit : f (trim_of (part i e s)) ≡ true → any_trim f (parts_of 44 (drop i s)) ≡ true
-  piece-hit k = go (ltb e (length s)) refl
-    where
-      go : (t : Bool) → ltb e (length s) ≡ t → any_trim f (parts_of 44 (drop i s)) ≡ true
-      go true z = ap (any_trim f) (parts_at 44 s i e h q (ltb-true e (length s) z)) ∙ any-cons f _ _ true k
-      go false z = ap (any_trim f) (parts-at-end 44 s i e h q (ltb-false e (length s) z)) ∙ any-cons f _ _ true k
-
-  pub piece-last : length s ≤ e → f (trim_of (part i e s)) ≡ false → any_trim f (parts_of 44 (drop i s)) ≡ false
-  unfolding any_trim
-  piece-last z k = ap (any_trim f) (parts-at-end 44 s i e h q z) ∙ any-cons f _ [] false k
-
-  pub piece-on : e < length s → f (trim_of (part i e s)) ≡ false → any_trim f (parts_of 44 (drop i s)) ≡ any_trim f (parts_of 44 (drop (e + 1) s))
-  piece-on z k = ap (any_trim f) (parts_at 44 s i e h q z) ∙ any-cons f _ _ false k
 
 -- ---- the reads of one line
 

@@ -20,17 +20,7 @@ ghost use Rattle.temps.specs.Inner.Table.{key_of, Tells, TellsOf};
 fn any_piece(s: &[u8], name: &[u8]) -> bool
     ensures { result ≡ any_piece name.now (parts_of 44 s.now) }
 {
-    let mut i = 0;
-    loop {
-        let e = lines::find_byte(s, i, b',');
-        if lines::same(text::trim(&s[i..e]), name) {
-            return true;
-        }
-        if e >= s.len() {
-            return false;
-        }
-        i = e + 1;
-    }
+    lines::pieces(s, b',').any(|p| lines::same(text::trim(p), name))
 }
 
 // Whether a trimmed line declares a name.
@@ -54,12 +44,7 @@ fn declares(t: &[u8], name: &[u8]) -> bool
 fn declared_in(text: &[u8], name: &[u8]) -> bool
     ensures { result ≡ declared_in name.now (lines_of text.now) }
 {
-    for line in lines::each::each(text) {
-        if declares(text::trim(line.bytes), name) {
-            return true;
-        }
-    }
-    false
+    lines::each::each(text).any(|line| declares(text::trim(line.bytes), name))
 }
 
 // Whether a trimmed line begins with `let `, `var ` or `const `.
@@ -108,12 +93,7 @@ fn temp_read(text: &[u8], name: &[u8]) -> bool
     requires { is_temp name.now ≡ true }
     ensures { result ≡ temp_read name.now (lines_of text.now) }
 {
-    for line in lines::each::each(text) {
-        if 0 < temp_reads(text::trim(line.bytes), name) {
-            return true;
-        }
-    }
-    false
+    lines::each::each(text).any(|line| 0 < temp_reads(text::trim(line.bytes), name))
 }
 
 // Whether some line of a text declares a temp: the table says so, where it reaches to it.

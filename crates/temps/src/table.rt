@@ -22,7 +22,7 @@ const STRIDE: u64 = GREAT + 633;
 
 // The key of the number n behind z zeros.
 fn key_by(z: usize, n: u64) -> Option<u64>
-    ensures { result ≡ key_by z (Of n) }
+    ensures { result ≡ key_by z (Some n) }
 {
     if z == 0 {
         if n < LED {
@@ -92,11 +92,8 @@ fn claim_temp(t: &[u8], low: usize, own: &mut [usize]) {
 
 // The same of the pieces between the commas.
 fn claim_pieces(s: &[u8], low: usize, own: &mut [usize]) {
-    let mut i = 0;
-    while i < s.len() {
-        let e = lines::find_byte(s, i, b',');
-        claim_temp(text::trim(lines::cut(s, i, e)), low, own);
-        i = lines::after(s, e);
+    for piece in lines::pieces(s, b',') {
+        claim_temp(text::trim(piece), low, own);
     }
 }
 
@@ -177,14 +174,8 @@ fn flag_temp(t: &[u8], own: &[usize], table: &mut [u8])
 fn flag_pieces(s: &[u8], own: &[usize], table: &mut [u8])
     ensures { table.new ≡ flag_pieces own.now (parts_of 44 s.now) table.old }
 {
-    let mut i = 0;
-    loop {
-        let e = lines::find_byte(s, i, b',');
-        flag_temp(text::trim(lines::cut(s, i, e)), own, table);
-        if e >= s.len() {
-            return;
-        }
-        i = e + 1;
+    for piece in lines::pieces(s, b',') {
+        flag_temp(text::trim(piece), own, table);
     }
 }
 

@@ -1,4 +1,4 @@
-use Rattle.std.proofs.Common.{sym, ap}
+use Rattle.std.proofs.Common.{ℕ, sym, ap}
 use Rattle.std.specs.declared.option.Option.{Option}
 use Rattle.temps.specs.Inner.Table.{flag_by}
 use Rattle.temps.proofs.TableLaws.{by-here, by-past}

@@ -1,18 +1,16 @@
-use Rattle.std.proofs.Common.{arith}
-use Rattle.temps.proofs.TableLaws.{pieces-start, piece-long, pieces-on, pieces_end}
+use Rattle.std.proofs.Common.{ap, ◌∙◌}
+use Rattle.lines.specs.Inner.Pieces.{pieces_left}
+use Rattle.temps.proofs.TableLaws.{pieces-start, pieces-on, pieces_end}
 use Rattle.temps.proofs.table.flag_pieces.Goals as goal
 
-pub loop-i-init : goal.loop-i-init
-loop-i-init c = pieces-start _ _ _
+pub loop-piece-init : goal.loop-piece-init
+loop-piece-init c = pieces-start _ _ (ap pieces_left c.into_iter-piece-iterator.ensures.into_iter_gives ∙ c.pieces-piece-items.ensures)
 
-pub shape_of-table-then-e-s : goal.shape_of-table-then-e-s
-shape_of-table-then-e-s c = piece-long _ c.loop-i.invariant c.find_byte-e.result c.find_byte-e.ensures c.cut.result.now c.trim.result.now _ c.cut.ensures c.trim.ensures.0 c.flag_temp.ensures
+pub loop-piece-preserved : goal.loop-piece-preserved
+loop-piece-preserved c = pieces-on _ c.loop-piece.invariant c.in-Some.ensures.steps c.trim.ensures.0 c.flag_temp.ensures
 
-pub returns-then-e-s : goal.returns-then-e-s
-returns-then-e-s c = pieces_end _ c.loop-i.invariant c.find_byte-e.result c.find_byte-e.ensures c.cut.result.now c.trim.result.now _ c.cut.ensures c.trim.ensures.0 c.flag_temp.ensures c.if-e-s.true
+pub shape_of-table : goal.shape_of-table
+shape_of-table c = c.loop-piece.invariant.long
 
-pub loop-i-smaller : goal.loop-i-smaller
-loop-i-smaller c = omega (arith, c.find_byte-e.ensures)
-
-pub loop-i-preserved : goal.loop-i-preserved
-loop-i-preserved c = pieces-on _ c.loop-i.invariant c.find_byte-e.result c.find_byte-e.ensures c.cut.result.now c.trim.result.now _ c.cut.ensures c.trim.ensures.0 c.flag_temp.ensures c.if-e-s.false
+pub returns : goal.returns
+returns c = pieces_end _ c.loop-piece.invariant c.in-None.ensures.steps.0

@@ -1,9 +1,7 @@
-use Rattle.std.proofs.Common.{◌-◌, length}
+use Rattle.lines.specs.Lf.{parts_of}
+use Rattle.lines.specs.Inner.Pieces.{pieces_left}
 use Rattle.temps.proofs.TableLaws.{PiecesInv}
 use Rattle.temps.proofs.table.flag_pieces.Given as goal
 
-abbrev pub invariant-loop-i : goal.invariant-loop-i
-invariant-loop-i l = PiecesInv l.own l.s l.initial.table l.table l.i
-
-abbrev pub decreases-loop-i : goal.decreases-loop-i
-decreases-loop-i l = length l.s - l.i
+abbrev pub invariant-loop-piece : goal.invariant-loop-piece
+invariant-loop-piece l = PiecesInv l.own (parts_of 44 l.s) (pieces_left l.piece-iterator) l.initial.table l.table

@@ -1,4 +1,4 @@
-use Rattle.std.proofs.Common.{ap, ◌∙◌}
+use Rattle.std.proofs.Common.{ℕ, ap, ◌∙◌}
 use Rattle.std.specs.declared.option.Option.{Option}
 use Rattle.temps.specs.Inner.Table.{flag_at}
 use Rattle.temps.proofs.table.flag_temp.Goals as goal
