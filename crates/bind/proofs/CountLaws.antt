@@ -47,15 +47,6 @@ pub piece-nil : (v : ℕ) → piece_count v [] ≡ 0
 unfolding piece_count
 piece-nil v = refl
 
-module _ (v : ℕ) (s : List ℕ) (i e : ℕ) (h : i ≤ length s) (q : e ≡ i + up_to 44 (drop i s)) (b : Bool) (z : b ≡ reg_is v (reg_of (trim_of (part i e s)))) where
-  pub pieces-on : e < length s → piece_count v (parts_of 44 (drop i s)) ≡ cond b 1 0 + piece_count v (parts_of 44 (drop (e + 1) s))
-  pieces-on l = ap (piece_count v) (parts_at 44 s i e h q l) ∙ piece-cons v (part i e s) _ b z
-
-  pub pieces-last : length s ≤ e → piece_count v (parts_of 44 (drop i s)) ≡ cond b 1 0
-  pieces-last l =
-      ap (piece_count v) (parts-at-end 44 s i e h q l) ∙ piece-cons v (part i e s) [] b z
-      ∙ (let n = piece-nil v in let k : ℕ = cond b 1 0 in omega arith)
-
 -- ---- declarations
 
 -- a declaration by itself

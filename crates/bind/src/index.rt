@@ -52,6 +52,7 @@ fn read_runs(s: &[u8], own: &[usize], b: usize, first: &mut [usize])
     ensures { first.new ≡ read_runs own.now b (runs s.now) first.old }
 {
     let mut i = words::reg_start(s, 0);
+    // Kept: the place goes from one run that may name a register to the next.
     while i < s.len() {
         let e = words::run_end(s, i);
         read_name(&s[i..e], own, b, first);

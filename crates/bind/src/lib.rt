@@ -58,19 +58,15 @@ fn one_more(n: usize, b: bool) -> usize
 
 // How many of the pieces between the commas name a register, and `n` more; 2 stands for all above.
 fn count_pieces(body: &[u8], reg: names::Register, n: usize) -> usize
+    requires { n ≤ 2 }
     ensures { result ≡ min (n + piece_count reg.0 (parts_of 44 body.now)) 2 }
 {
-    let mut i = 0;
     let mut m = n;
-    loop {
-        let e = lines::find_byte(body, i, b',');
-        let s = names::names_reg(text::trim(lines::cut(body, i, e)), reg);
+    for piece in lines::pieces(body, b',') {
+        let s = names::names_reg(text::trim(piece), reg);
         m = one_more(m, s);
-        if e >= body.len() {
-            return m;
-        }
-        i = e + 1;
     }
+    m
 }
 
 // How often a line declares a register, and `n` more; 2 stands for all above.

@@ -75,6 +75,7 @@ fn note_runs(s: &[u8], own: &[usize], c: u32, h: u32, near: &mut [u32])
     ensures { near.new ≡ read_runs own.now c h (runs s.now) near.old }
 {
     let mut i = words::reg_start(s, 0);
+    // Kept: the place goes from one run that may name a register to the next.
     while i < s.len() {
         let e = words::run_end(s, i);
         note_name(&s[i..e], own, c, h, near);

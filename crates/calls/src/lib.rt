@@ -315,6 +315,7 @@ fn walk_up(
     let mut c = size;
     let mut over = top;
     let mut steps: usize = 0;
+    // Kept: places in the text and on the stack move up with the rows, and it stops where a value stays.
     while (0 < k) & (steps < 64) {
         steps += 1;
         let q = lines::line_start(text, p - 1);

@@ -135,6 +135,7 @@ fn note_runs(
     ensures { (near.new, (far.new, notes.new)) ≡ read_runs own.now n h m (runs s.now) (near.old, (far.old, notes.old)) }
 {
     let mut i = words::reg_start(s, 0);
+    // Kept: the place goes from one run that may name a register to the next.
     while i < s.len() {
         let e = words::run_end(s, i);
         note_name(&s[i..e], own, m, h, n, near, far, notes);
@@ -342,6 +343,7 @@ fn note_up(
     let mut i = text.len();
     let mut m = 0;
     let mut h = 0;
+    // Kept: it goes up by lines, and where each begins is read from a table.
     while 0 < i {
         let e = i - 1;
         let k = row_of(n, m);

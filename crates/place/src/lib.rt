@@ -205,6 +205,7 @@ fn walk_tokens(line: &[u8], k: usize, block: u32, up: &mut [u32], n: usize) -> A
     let mut tail = lexical::front_tail(line, k);
     let mut c = block;
     let mut m = n;
+    // Kept: the place moves by what a token has and the plain bytes behind it.
     while i < line.len() {
         let b = line[i];
         let step = lexical::step_at(line, i, tail);
