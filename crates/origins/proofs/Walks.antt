@@ -12,7 +12,7 @@ use Rattle.lines.specs.Lf.{up_to, part, lines_of, same}
 use Rattle.lines.specs.Steps.{drop_cr, split_lines}
 use Rattle.lines.specs.Inner.Lf.{lacks}
 use Rattle.lines.specs.Inner.Out.{Wrote}
-use Rattle.lines.proofs.Tests.{and_left, and_right, and-false}
+use Rattle.lines.proofs.Tests.{and-false}
 use Rattle.lines.proofs.LfLaws.{lines-at, lines_end, drop_min, find-le}
 use Rattle.lines.proofs.OutLaws.{Writing, writing_start, writing-as, writing-room, writing-put, writing-end}
 use Rattle.origins.specs.declared.Went.{Went}
@@ -196,15 +196,26 @@ module _ {F : Shape} {t lf cs d₀ d : List ℕ} {i p k o : ℕ} (h : WalkInv F 
         r ≡ cond (ltb (get_or cs k 0) half) (min (p + first_end (part i x t) (drop p lf) + 1) (length lf)) p → j ≡ min (e + 1) (length t) → WalkInv F t lf cs d₀ d' j r (k + 1) n
     walk-told m d' n r j s w v g = walk-on m d' n r j (s ∙ told-said (part i x t) lf p q (get_or cs k 0) z lacking) w (told-next (part i x t) lf p q (get_or cs k 0) z lacking r v) g
 
-  pub walk_end : ltb i (length t) && ltb k (length cs) ≡ false → Wrote d₀ 0 (file_of F (wents_by (lines_of lf) (split_lines t) cs)) d o
+  -- no line is left
+  pub walk-over : length t ≤ i → Wrote d₀ 0 (file_of F (wents_by (lines_of lf) (split_lines t) cs)) d o
   unfolding records_from wents_by
-  walk_end z = writing-end (writing-as (none (ltb i (length t)) refl z) h.writing)
-    where
-      none : (b : Bool) → ltb i (length t) ≡ b → b && ltb k (length cs) ≡ false → rest F t lf cs i p k ≡ []
-      none true e f = ap (λ (c : List ℕ). records_from F k (wents_by (lines_of (drop p lf)) (split_lines (drop i t)) c)) (drop_of_length-le cs (ltb-false k (length cs) f)) ∙ ap (records_from F k) (said-none (lines_of (drop p lf)) (split_lines (drop i t)))
-      none false e f =
-          ap (λ (l : List ℕ). records_from F k (wents_by (lines_of (drop p lf)) (split_lines l) (drop k cs))) (drop_of_length-le t (ltb-false i (length t) e))
-          ∙ ap (λ (ls : List (List ℕ)). records_from F k (wents_by (lines_of (drop p lf)) ls (drop k cs))) split-none
+  walk-over z =
+      writing-end
+      (writing-as
+      (ap (λ (l : List ℕ). records_from F k (wents_by (lines_of (drop p lf)) (split_lines l) (drop k cs))) (drop_of_length-le t z)
+      ∙ ap (λ (ls : List (List ℕ)). records_from F k (wents_by (lines_of (drop p lf)) ls (drop k cs))) split-none)
+      h.writing)
 
-pub both-in : (i n k m : ℕ) → ltb i n && ltb k m ≡ true → (i < n) × (k < m)
-both-in i n k m h = (ltb-true i n (and_left (ltb i n) (ltb k m) h), ltb-true k m (and_right (ltb i n) (ltb k m) h))
+  -- no code is left
+  pub walk-out : length cs ≤ k → Wrote d₀ 0 (file_of F (wents_by (lines_of lf) (split_lines t) cs)) d o
+  unfolding records_from wents_by
+  walk-out z =
+      writing-end
+      (writing-as
+      (ap (λ (c : List ℕ). records_from F k (wents_by (lines_of (drop p lf)) (split_lines (drop i t)) c)) (drop_of_length-le cs z)
+      ∙ ap (records_from F k) (said-none (lines_of (drop p lf)) (split_lines (drop i t))))
+      h.writing)
+
+  -- the same under other names
+  pub walk-as : {j n : ℕ} → j ≡ i → n ≡ k → WalkInv F t lf cs d₀ d j p n o
+  walk-as {j} {n} e q = subst (λ (y : ℕ). WalkInv F t lf cs d₀ d y p n o) (sym e) (subst (λ (y : ℕ). WalkInv F t lf cs d₀ d i p y o) (sym q) h)

@@ -341,19 +341,15 @@ pub fn put_records(f: Form, text: &[u8], lf: &[u8], table: &[usize], orig: &mut 
     requires { length (file_of (form_shape f) (wents_by (lines_of lf.now) (split_lines text.now) table.now)) ≤ length orig.old }
     ensures { Wrote orig.old 0 (file_of (form_shape f) (wents_by (lines_of lf.now) (split_lines text.now) table.now)) orig.new result }
 {
-    let mut i = 0;
     let mut p = 0;
-    let mut k = 0;
     let mut o = 0;
-    while (i < text.len()) & (k < table.len()) {
-        let c = table[k];
-        let e = lines::find_byte(text, i, 10);
-        let told = tell(text, i, e, lf, p, c);
-        let w = told.went;
-        o = put_record(orig, o, f, k, w);
+    for (k, line) in lines::each::each(text).enumerate() {
+        if k == table.len() {
+            return o;
+        }
+        let told = tell(text, line.from, line.to, lf, p, table[k]);
+        o = put_record(orig, o, f, k, told.went);
         p = told.next;
-        k += 1;
-        i = lines::after(text, e);
     }
     o
 }

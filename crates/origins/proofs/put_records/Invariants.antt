@@ -1,11 +1,7 @@
-use Prim.Native.Nat.{◌-◌}
-use lib.ListN.{length}
+use Rattle.lines.proofs.EachLaws.{Over}
 use Rattle.origins.specs.Form.{form_shape}
 use Rattle.origins.proofs.Walks.{WalkInv}
 use Rattle.origins.proofs.put_records.Given as goal
 
-abbrev pub invariant-loop-i : goal.invariant-loop-i
-invariant-loop-i l = WalkInv (form_shape l.f) l.text l.lf l.table l.initial.orig l.orig l.i l.p l.k l.o
-
-abbrev pub decreases-loop-i : goal.decreases-loop-i
-decreases-loop-i l = length l.text - l.i
+abbrev pub invariant-loop-k : goal.invariant-loop-k
+invariant-loop-k l = let it = l.k-iterator in Over l.text it.iter × WalkInv (form_shape l.f) l.text l.lf l.table l.initial.orig l.orig it.iter.at l.p it.count l.o
