@@ -1,46 +1,26 @@
--- Counting the lines of a chain, and sizes. Assumes nothing.
-use Prim.Native.Nat.{ℕ, suc, ◌+◌, ◌-◌, ◌*◌, ◌≤◌, ◌<◌}
-use mathlib.Core.Path.{◌≡◌, sym, ap, ◌∙◌}
-use mathlib.Core.Bool.{cond}
-use mathlib.Core.List.{List}
-use native.Mathlib.Omega.{arith}
-use borrow.Author.Tests.{le-leb, lt-leb}
-use lib.Dec.{leb}
-use lib.ListN.{length, get_or}
+-- The lines that a chain has left. Assumes nothing.
+use Rattle.std.proofs.Common.{◌≡◌, ℕ, suc, zero, ◌-◌, ◌<◌, ◌≤◌, Bool, true, false, cond, List, [], ◌∷◌, length, get_or, arith, sym, ap, ◌∙◌}
+use lib.Dec.{ltb}
 use Rattle.reader.specs.Chains.{along}
 use Rattle.reader.proofs.ChainLaws.{along-none, along-zero, along-some}
 
--- n lines are counted, and those from line i on are not
-pub record CountInv (end : ℕ) (ns : List ℕ) (at i n : ℕ) : Type 0 where
-  pub n≤ : n ≤ end
-  pub same : length (along end ns end at) ≡ n + length (along end ns (end - n) i)
+module _ (end : ℕ) (ns : List ℕ) where
+  -- a chain has no more lines than may come
+  pub along-short : (k i : ℕ) → length (along end ns k i) ≤ k
+  unfolding along
+  along-short zero i = omega arith
+  along-short (suc k) i =
+      let go : (b : Bool) → length (cond b (i ∷ along end ns k (get_or ns i end)) []) ≤ suc k =
+      λ b. elim b as (λ v. length (cond v (i ∷ along end ns k (get_or ns i end)) []) ≤ suc k) [ true ↦ omega (arith, along-short k (get_or ns i end)) | false ↦ omega arith ] in
+      go (ltb i end)
 
-pub count-start : (end : ℕ) (ns : List ℕ) (at : ℕ) → CountInv end ns at at 0
-count-start end ns at =
-    let q : end ≡ end - 0 = omega arith in
-    let e : length (along end ns end at) ≡ length (along end ns (end - 0) at) = ap (λ (k : ℕ). length (along end ns k at)) q in
-    record { n≤ = omega arith; same = omega (arith, e) }
+  pub none_left : (k i : ℕ) → k ≡ 0 → along end ns k i ≡ []
+  none_left k i h = ap (λ (n : ℕ). along end ns n i) h ∙ along-zero end i ns
 
-module _ {end : ℕ} {ns : List ℕ} {at i n : ℕ} (h : CountInv end ns at i n) where
-  pub count-stop : end ≤ i → n ≡ length (along end ns end at)
-  count-stop k = let e : length (along end ns (end - n) i) ≡ 0 = ap length (along-none end (end - n) i ns k) in omega (arith, e, h.same)
+  pub past_end : (k i : ℕ) → end ≤ i → along end ns k i ≡ []
+  past_end k i h = along-none end k i ns h
 
-  pub count-end : end ≤ n → n ≡ length (along end ns end at)
-  count-end k =
-      let q : end - n ≡ 0 = omega arith in
-      let e : length (along end ns (end - n) i) ≡ 0 = ap (λ (m : ℕ). length (along end ns m i)) q ∙ ap length (along-zero end i ns) in
-      omega (arith, e, h.same)
-
-  pub count-on : i < end → n < end → (j : ℕ) → j ≡ get_or ns i end → CountInv end ns at j (n + 1)
-  count-on k l j e =
-      let q : end - n ≡ suc (end - (n + 1)) = omega arith in
-      let z : length (along end ns (end - n) i) ≡ suc (length (along end ns (end - (n + 1)) j)) =
-      ap (λ (m : ℕ). length (along end ns m i)) q ∙ ap length (along-some end (end - (n + 1)) i ns k) ∙ ap (λ (m : ℕ). suc (length (along end ns (end - (n + 1)) m))) (sym e) in
-      record { n≤ = omega arith; same = omega (arith, z, h.same) }
-
--- the bytes of the records of n lines
-pub size-within : (n : ℕ) → n ≤ 1024 → n * 7 ≡ cond (leb n 1024) (n * 7) 0
-size-within n h = rw (le-leb n 1024 h)
-
-pub size-beyond : (n : ℕ) → 1024 < n → 0 ≡ cond (leb n 1024) (n * 7) 0
-size-beyond n h = rw (lt-leb n 1024 h)
+  pub one_more : (k i j : ℕ) → (k ≡ 0 → ⊥) → i < end → j ≡ get_or ns i end → along end ns k i ≡ i ∷ along end ns (k - 1) j
+  one_more k i j g h e =
+      let q : k ≡ suc (k - 1) = omega (arith, g) in
+      ap (λ (n : ℕ). along end ns n i) q ∙ along-some end (k - 1) i ns h ∙ ap (λ (m : ℕ). i ∷ along end ns (k - 1) m) (sym e)

@@ -1,30 +1,31 @@
 // The arguments of the program.
-
 use input::host;
 
-// What is asked: plain text or a page, and the mode of a number.
-#[derive(Clone, Copy)]
-pub struct Task {
+// What is asked: plain text in the place of a page, and the mode.
+#[derive(Clone, Copy, Default)]
+pub struct Options {
     pub text: bool,
-    pub mode: usize,
+    strict: bool,
+    joined: bool,
+}
+
+impl Options {
+    // The number of the mode.
+    pub fn mode(self) -> usize {
+        match (self.joined, self.strict) {
+            (false, false) => 0,
+            (false, true) => 1,
+            (true, false) => 2,
+            (true, true) => 3,
+        }
+    }
 }
 
 // What is asked, and the place of the first argument that is no option.
 #[derive(Clone, Copy)]
 pub struct Asked {
-    pub task: Task,
+    pub options: Options,
     pub rest: usize,
-}
-
-// The number of the mode that is asked for.
-fn mode_of(strict: bool, joined: bool) -> usize {
-    if joined & strict {
-        return 3;
-    }
-    if joined {
-        return 2;
-    }
-    if strict { 1 } else { 0 }
 }
 
 // What an argument is: an option, `--`, or a file's name.
@@ -37,61 +38,39 @@ enum Word {
     Name,
 }
 
-// Whether an argument is a word. One that is missing or very long is none.
-fn is_word(rt: &HostRuntime, at: usize, word: &[u8]) -> bool {
+// What an argument is. One that is missing or very long is no option.
+fn word_at(rt: &HostRuntime, at: usize) -> Word {
     let mut room = host::buffer();
     let n = host::arg(rt, at, &mut room);
-    lines::same(&room[..n], word)
-}
-
-// What an argument is.
-fn word_at(rt: &HostRuntime, at: usize) -> Word {
-    if is_word(rt, at, b"--text") {
-        return Word::Text;
+    match &room[..n] {
+        b"--text" => Word::Text,
+        b"--strict" => Word::Strict,
+        b"--joined" => Word::Joined,
+        b"--" => Word::End,
+        _ => Word::Name,
     }
-    if is_word(rt, at, b"--strict") {
-        return Word::Strict;
-    }
-    if is_word(rt, at, b"--joined") {
-        return Word::Joined;
-    }
-    if is_word(rt, at, b"--") {
-        return Word::End;
-    }
-    Word::Name
-}
-
-// What is asked, as a file's name or none stands from a place on.
-fn asked_for(text: bool, strict: bool, joined: bool, rest: usize) -> Asked {
-    let mode = mode_of(strict, joined);
-    Asked {
-        task: Task { text, mode },
-        rest,
-    }
-}
-
-// The place of the next argument.
-pub fn past(at: usize) -> usize {
-    if at < usize::MAX { at + 1 } else { at }
 }
 
 // Takes the options, in any order, and `--`.
 pub fn take_words(rt: &HostRuntime) -> Asked {
-    let mut text = false;
-    let mut strict = false;
-    let mut joined = false;
-    let mut at = 1;
-    let mut left = host::arg_count(rt);
-    while 0 < left {
+    let mut options = Options::default();
+    let count = host::arg_count(rt);
+    for at in 1..count {
         match word_at(rt, at) {
-            Word::Text => text = true,
-            Word::Strict => strict = true,
-            Word::Joined => joined = true,
-            Word::End => return asked_for(text, strict, joined, past(at)),
-            Word::Name => return asked_for(text, strict, joined, at),
+            Word::Text => options.text = true,
+            Word::Strict => options.strict = true,
+            Word::Joined => options.joined = true,
+            Word::End => {
+                return Asked {
+                    options,
+                    rest: at + 1,
+                };
+            }
+            Word::Name => return Asked { options, rest: at },
         }
-        at = past(at);
-        left -= 1;
     }
-    asked_for(text, strict, joined, at)
+    Asked {
+        options,
+        rest: count,
+    }
 }

@@ -1,6 +1,6 @@
 // Text as a page shows it: what has a meaning in HTML is written as a character of it, and what cannot be seen or would turn the writing round as its number. Each
 // function returns whether it went out.
-ghost use Rattle.std.specs.Prelude.{◌≡◌, cond, not, ◌&&◌, eqb, get_or};
+ghost use Rattle.std.specs.Prelude.{◌≡◌, ◌<◌, ◌≤◌, cond, not, ◌&&◌, eqb, get_or};
 ghost use Rattle.optview.specs.Inner.Shown.{unseen_one, unseen_narrow, unseen_wide, unseen_len, is_sign, code_of};
 
 use crate::put;
@@ -35,7 +35,7 @@ fn unseen_narrow(a: u8, b: u8) -> bool
 fn is_sign(a: u8) -> bool
     ensures { result ≡ is_sign a }
 {
-    (a == 38) | ((a == 60) | ((a == 62) | (a == 34)))
+    matches!(a, b'&' | b'<' | b'>' | b'"')
 }
 
 // How many bytes the first character has, where it cannot be seen or turns the writing round; 0 for any other.
@@ -81,9 +81,9 @@ fn put_code(rt: &HostRuntime, n: u64) -> Sent {
 // Writes a byte that has a meaning in HTML.
 fn put_sign(rt: &HostRuntime, b: u8) -> Sent {
     match b {
-        38 => put::bytes(rt, b"&amp;"),
-        60 => put::bytes(rt, b"&lt;"),
-        62 => put::bytes(rt, b"&gt;"),
+        b'&' => put::bytes(rt, b"&amp;"),
+        b'<' => put::bytes(rt, b"&lt;"),
+        b'>' => put::bytes(rt, b"&gt;"),
         _ => put::bytes(rt, b"&quot;"),
     }
 }
@@ -100,14 +100,12 @@ fn is_seen(s: &[u8]) -> bool
 
 // How many bytes at the front are written as they are.
 fn seen_len(s: &[u8]) -> usize {
-    let mut i = 0;
-    while i < s.len() {
+    for i in 0..s.len() {
         if !is_seen(&s[i..]) {
             return i;
         }
-        i += 1;
     }
-    i
+    s.len()
 }
 
 // Writes the first character, which is not written as it is.
@@ -134,16 +132,28 @@ fn other_len(s: &[u8]) -> usize
 pub fn put_text(rt: &HostRuntime, s: &[u8]) -> Sent {
     let mut went = Sent::Whole;
     let mut i = 0;
+    // Kept: the place moves by what is written as it is, or by the bytes of a character.
     while i < s.len() {
         let n = seen_len(&s[i..]);
         if 0 < n {
-            let e = put::past(i, n, s.len());
+            let e = past(i, n, s.len());
             went = went & put::bytes(rt, &s[i..e]);
             i = e;
         } else {
             went = went & put_other(rt, &s[i..]);
-            i = put::past(i, other_len(&s[i..]), s.len());
+            i = past(i, other_len(&s[i..]), s.len());
         }
     }
     went
+}
+
+// The place n places behind i, but not behind the end; at least the next one.
+fn past(i: usize, n: usize, end: usize) -> usize
+    requires { i < end }
+    ensures { (i < result) × (result ≤ end) }
+{
+    if n == 0 || end - i < n {
+        return end;
+    }
+    i + n
 }

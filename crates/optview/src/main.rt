@@ -6,6 +6,7 @@
 mod asked;
 mod chain;
 mod escape;
+mod listing;
 mod page;
 mod parts;
 mod plain;
@@ -14,165 +15,119 @@ mod stages;
 mod tell;
 mod why;
 
-ghost use Rattle.std.specs.Prelude.{◌≡◌, cond, ◌*◌, leb, length};
-
-use asked::Task;
+use asked::Options;
 use input::host;
 use input::host::{Opened, Sent, Word};
+use listing::Listing;
 use origins::Form;
+use stages::Noted;
 use std::io::Read;
 
+// The most lines of a listing.
+const LINES: usize = 1024;
+
 // Room for a listing: one byte more than is taken, so that a longer one is seen.
-fn text_room() -> [u8; 16385]
-    ensures { 16385 ≡ length result }
-{
-    [0; 16385]
-}
+const TEXT: usize = 16385;
 
 // Room for what a listing becomes.
-fn tidy_room() -> [u8; 32769]
-    ensures { 32769 ≡ length result }
-{
-    [0; 32769]
-}
+const TIDY: usize = 32769;
 
-// Room for the records of all lines.
-fn record_room() -> [u8; 7168]
-    ensures { 7168 ≡ length result }
-{
-    [0; 7168]
-}
-
-// Room for a stage a line.
-fn stage_room() -> [u8; 1024]
-    ensures { 1024 ≡ length result }
-{
-    [0; 1024]
-}
-
-// Room for a number a line.
-fn line_room() -> [usize; 1024]
-    ensures { 1024 ≡ length result }
-{
-    [0; 1024]
-}
-
-// How many bytes the records of `n` lines are: there are at most 1,024 lines.
-fn size_of(n: usize) -> usize
-    ensures { result ≡ cond (leb n 1024) (n * 7) 0 }
-{
-    if n <= 1024 { n * 7 } else { 0 }
-}
+// How many bytes the record of a line has.
+const RECORD: usize = 7;
 
 // Shows a listing that is there whole.
-fn show(rt: &HostRuntime, task: Task, text: &[u8], name: &[u8]) {
-    let mut tidy = tidy_room();
-    let mut records = record_room();
-    let mut gone = stage_room();
-    let mut held = stage_room();
-    let answer = stages::run_all(
-        task.mode,
-        text,
-        &mut tidy,
-        &mut records,
-        &mut gone,
-        &mut held,
-    );
-    let number = limits::number_of(answer);
-    if number != 0 {
-        tell::refused(rt, number, limits::place_of(answer), name);
+fn show(rt: &HostRuntime, options: Options, text: &[u8], name: &[u8]) {
+    let mut tidy = [0; TIDY];
+    let mut records = [0; RECORD * LINES];
+    let mut noted = Noted::new();
+    let answer = noted.run_all(options.mode(), text, &mut tidy, &mut records);
+    let Ok(length) = answer else {
+        tell::refused(
+            rt,
+            limits::number_of(answer),
+            limits::place_of(answer),
+            name,
+        );
         return;
-    }
-    let result = lines::cut(&tidy, 0, limits::length_of(answer));
-    let all = lines::cut(&records, 0, size_of(lines::count_lines(text)));
-    show_linked(rt, task.text, text, result, all, &gone, &held, name);
+    };
+    let count = lines::count_lines(text).min(LINES);
+    let listing = Listing {
+        text,
+        tidy: lines::cut(&tidy, 0, length),
+        records: lines::cut(&records, 0, RECORD * count),
+        noted: &noted,
+        first: &[],
+        next: &[],
+        count,
+    };
+    show_linked(rt, options, listing, name);
 }
 
-// Shows a listing with its result and its records, once the reader of records has linked the lines.
-fn show_linked(
-    rt: &HostRuntime,
-    bare: bool,
-    text: &[u8],
-    tidy: &[u8],
-    records: &[u8],
-    gone: &[u8],
-    held: &[u8],
-    name: &[u8],
-) {
-    let mut first = line_room();
-    let mut next = line_room();
-    let got = reader::lines_of_all(Form::Ol, records, &mut first, &mut next);
+// Shows a listing, once the reader of records has linked its lines.
+fn show_linked(rt: &HostRuntime, options: Options, listing: Listing<'_>, name: &[u8]) {
+    let mut first = [0; LINES];
+    let mut next = [0; LINES];
+    let got = reader::lines_of_all(Form::Ol, listing.records, &mut first, &mut next);
     let number = reader::number_of(got);
     if number != 0 {
         tell::bad_records(rt, number, reader::place_of(got));
         return;
     }
-    match put_all(
-        rt, bare, text, tidy, records, gone, held, &first, &next, name,
-    ) {
+    let linked = Listing {
+        first: &first,
+        next: &next,
+        ..listing
+    };
+    let sent = if options.text {
+        plain::put_both(rt, linked)
+    } else {
+        page::put_page(rt, linked, name)
+    };
+    match sent {
         Sent::Whole => {}
         Sent::Failed(why) => tell::cannot_write(rt, why),
     }
 }
 
-// Writes what is asked for, and returns whether it went out.
-fn put_all(
-    rt: &HostRuntime,
-    bare: bool,
-    text: &[u8],
-    tidy: &[u8],
-    records: &[u8],
-    gone: &[u8],
-    held: &[u8],
-    first: &[usize],
-    next: &[usize],
-    name: &[u8],
-) -> Sent {
-    if bare {
-        return plain::put_both(rt, text, tidy, records, gone, held, first, next);
-    }
-    page::put_page(rt, text, tidy, records, gone, held, first, next, name)
-}
-
 // Shows what a reader delivers. Of a listing that did not come whole nothing is shown.
-fn show_input<R: Read>(rt: &HostRuntime, task: Task, from: &mut R, name: &[u8]) {
-    let mut text = text_room();
+fn show_input<R: Read>(rt: &HostRuntime, options: Options, from: &mut R, name: &[u8]) {
+    let mut text = [0; TEXT];
     match input::read_input(from, &mut text) {
-        input::Got::Whole(n) => show(rt, task, lines::cut(&text, 0, n), name),
+        input::Got::Whole(n) => show(rt, options, lines::cut(&text, 0, n), name),
         input::Got::Failed(why) => tell::fail(rt, b"read ", name, why),
     }
 }
 
 // Shows standard input.
-fn show_standard(rt: &HostRuntime, task: Task) {
+fn show_standard(rt: &HostRuntime, options: Options) {
     let mut from = rt.stdin();
-    show_input(rt, task, &mut from, b"standard input");
+    show_input(rt, options, &mut from, b"standard input");
 }
 
 // Shows the file of a name.
-fn show_file(rt: &HostRuntime, task: Task, name: &[u8]) {
+fn show_file(rt: &HostRuntime, options: Options, name: &[u8]) {
     if lines::same(name, b"-") {
-        show_standard(rt, task);
+        show_standard(rt, options);
         return;
     }
     match host::open(rt, name) {
         Opened::Is(file) => {
             let mut file = file;
-            show_input(rt, task, &mut file, name);
+            show_input(rt, options, &mut file, name);
         }
         Opened::Failed(why) => tell::fail(rt, b"open ", name, why),
     }
 }
 
 // Shows what argument `at` names, standard input where there is none.
-fn show_named(rt: &HostRuntime, task: Task, at: usize) {
+fn show_named(rt: &HostRuntime, options: Options, at: usize) {
     if host::arg_count(rt) <= at {
-        show_standard(rt, task);
+        show_standard(rt, options);
         return;
     }
     let mut name = host::buffer();
     match host::take_arg(rt, at, &mut name) {
-        Word::Is(n) => show_file(rt, task, lines::cut(&name, 0, n)),
+        Word::Is(n) => show_file(rt, options, lines::cut(&name, 0, n)),
         Word::Failed(why) => host::say_failed(rt, b"optview: cannot take the file's name", why),
     }
 }
@@ -180,9 +135,9 @@ fn show_named(rt: &HostRuntime, task: Task, at: usize) {
 fn main(rt: HostRuntime) {
     let rt = &rt;
     let asked = asked::take_words(rt);
-    if asked::past(asked.rest) < host::arg_count(rt) {
+    if asked.rest.saturating_add(1) < host::arg_count(rt) {
         host::say(rt, b"optview: more than one file is named\n");
         return;
     }
-    show_named(rt, asked.task, asked.rest);
+    show_named(rt, asked.options, asked.rest);
 }

@@ -3,24 +3,16 @@ use crate::put;
 use input::host::Sent;
 
 // What the page is.
-fn put_meta(rt: &HostRuntime) -> Sent {
-    put::bytes(
-        rt,
-        b"<!DOCTYPE html>
+const META: &[u8] = b"<!DOCTYPE html>
 <html lang=\"en\">
 <head>
 <meta charset=\"utf-8\">
 <meta name=\"viewport\" content=\"width=device-width, initial-scale=1\">
 <title>Raw and tidy</title>
-",
-    )
-}
+";
 
 // How its parts look.
-fn put_looks(rt: &HostRuntime) -> Sent {
-    put::bytes(
-        rt,
-        b"<style>
+const LOOKS: &[u8] = b"<style>
 :root { --same: #444; --changed: #1a5fb4; --inside: #8a5a00; --gone: #a51d2d; --mark: #fff3b0; --pin: #ffd75e; }
 body { margin: 0; font: 15px/1.4 system-ui, sans-serif; color: #111; background: #fff; }
 header { padding: .6em 1em; border-bottom: 1px solid #bbb; }
@@ -31,15 +23,10 @@ section { min-width: 0; height: calc(100vh - 8.5em); overflow: auto; border-righ
 h2 { font-size: 1em; margin: 0; padding: .3em 1em; position: sticky; top: 0; background: #eee; }
 ol { list-style: none; margin: 0; padding: 0; }
 li { display: grid; grid-template-columns: 1.6em 3.4em 1fr; padding: 0 .5em; border-left: .4em solid transparent; cursor: pointer; scroll-margin-top: 2.2em; }
-",
-    )
-}
+";
 
 // How lines look by their fates: by colour, by sign and by shape.
-fn put_fates(rt: &HostRuntime) -> Sent {
-    put::bytes(
-        rt,
-        b"li:focus { outline: 2px solid #000; outline-offset: -2px; }
+const FATES: &[u8] = b"li:focus { outline: 2px solid #000; outline-offset: -2px; }
 code { font: 14px/1.5 ui-monospace, monospace; white-space: pre-wrap; overflow-wrap: anywhere; unicode-bidi: isolate; direction: ltr; }
 #tidy li { grid-template-columns: 3.4em 1fr; }
 b { text-align: right; margin-right: .6em; font-weight: normal; color: #666; font-variant-numeric: tabular-nums; }
@@ -55,44 +42,29 @@ li.on { background: var(--mark); } li.pin { background: var(--pin); }
 <body>
 <header>
 <h1>
-",
-    )
-}
+";
 
 // What stands above the name of the listing.
 pub fn put_head(rt: &HostRuntime) -> Sent {
-    put_meta(rt) & put_looks(rt) & put_fates(rt)
+    put::bytes(rt, META) & put::bytes(rt, LOOKS) & put::bytes(rt, FATES)
 }
 
 // What stands between that name and the raw lines.
-pub fn put_legend(rt: &HostRuntime) -> Sent {
-    put::bytes(
-        rt,
-        b"</h1>
+pub const LEGEND: &[u8] = b"</h1>
 <p>Move over a line, or click it, to see the lines that belong to it. Keys: arrows up and down to move, left and right to change sides, Enter to keep a line marked, Escape to let go.</p>
 <p><span class=\"f0\"><i>=</i>as it was</span> <span class=\"f1\"><i>~</i>changed</span> <span class=\"f2\"><i>&gt;</i>its value is inside another line</span> <span class=\"f3\"><i>&times;</i>gone</span></p>
 </header>
 <main>
 <section aria-label=\"raw listing\"><h2>raw</h2><ol id=\"raw\">
-",
-    )
-}
+";
 
 // What stands between the raw lines and the tidy ones.
-pub fn put_middle(rt: &HostRuntime) -> Sent {
-    put::bytes(
-        rt,
-        b"</ol></section>
+pub const MIDDLE: &[u8] = b"</ol></section>
 <section aria-label=\"tidy listing\"><h2>tidy</h2><ol id=\"tidy\">
-",
-    )
-}
+";
 
 // How lines that belong together are found and marked.
-fn put_marks(rt: &HostRuntime) -> Sent {
-    put::bytes(
-        rt,
-        b"</ol></section>
+const MARKS: &[u8] = b"</ol></section>
 </main>
 <script>
 (function () {
@@ -117,15 +89,10 @@ fn put_marks(rt: &HostRuntime) -> Sent {
   function pin(line) {
     pinned = pinned === line ? null : line;
     mark(pinned, \"pin\");
-",
-    )
-}
+";
 
 // What the mouse and the keys do.
-fn put_moves(rt: &HostRuntime) -> Sent {
-    put::bytes(
-        rt,
-        b"    if (pinned) show(pinned);
+const MOVES: &[u8] = b"    if (pinned) show(pinned);
   }
   function lineOf(e) { return e.target.closest ? e.target.closest(\"li\") : null; }
   function step(line, key) {
@@ -150,11 +117,9 @@ fn put_moves(rt: &HostRuntime) -> Sent {
 </script>
 </body>
 </html>
-",
-    )
-}
+";
 
 // What stands below the tidy lines.
 pub fn put_tail(rt: &HostRuntime) -> Sent {
-    put_marks(rt) & put_moves(rt)
+    put::bytes(rt, MARKS) & put::bytes(rt, MOVES)
 }

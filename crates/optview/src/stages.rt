@@ -1,96 +1,137 @@
 // What becomes of each line, stage by stage. The first stage is the removal of lines that declare globals, and each pass is one more.
-ghost use Rattle.std.specs.Prelude.{◌≡◌, length};
-
 use limits::Answer;
 use origins::{Form, Went};
 
-// How many stages there are.
-const STAGES: usize = 7;
+// How many lines a listing has at most.
+const LINES: usize = 1024;
 
-// A work buffer of bytes.
-fn work_room() -> [u8; 32769]
-    ensures { 32769 ≡ length result }
-{
-    [0; 32769]
+// The stated sizes of the work buffers.
+const BYTES: usize = 32769;
+
+const BLOCKS: usize = 16384;
+
+// A stage: the removal of lines that declare globals, or a pass.
+#[derive(Clone, Copy, PartialEq, Eq)]
+pub enum Stage {
+    Globals,
+    Temps,
+    Once,
+    Phis,
+    Calls,
+    Decls,
+    Bind,
 }
 
-// A work buffer of blocks.
-fn block_room() -> [u32; 16384]
-    ensures { 16384 ≡ length result }
-{
-    [0; 16384]
+impl Stage {
+    // The pass that it is, where it is one; they count from 1.
+    pub fn pass(self) -> Option<usize> {
+        match self {
+            Stage::Globals => None,
+            Stage::Temps => Some(1),
+            Stage::Once => Some(2),
+            Stage::Phis => Some(3),
+            Stage::Calls => Some(4),
+            Stage::Decls => Some(5),
+            Stage::Bind => Some(6),
+        }
+    }
+
+    // How many stages there are up to this one.
+    fn number(self) -> usize {
+        match self.pass() {
+            Some(n) => n.saturating_add(1),
+            None => 1,
+        }
+    }
+}
+
+// The stages before the last.
+const BEFORE_LAST: [Stage; 6] = [
+    Stage::Globals,
+    Stage::Temps,
+    Stage::Once,
+    Stage::Phis,
+    Stage::Calls,
+    Stage::Decls,
+];
+
+// For each line the stage in which it went, and that in which its value went into another line.
+#[derive(Drop)]
+pub struct Noted {
+    gone: [Option<Stage>; LINES],
+    held: [Option<Stage>; LINES],
+}
+
+impl Noted {
+    // Nothing is noted.
+    pub fn new() -> Noted {
+        Noted {
+            gone: [None; LINES],
+            held: [None; LINES],
+        }
+    }
+
+    // The stage in which a line went.
+    pub fn gone(&self, line: usize) -> Option<Stage> {
+        *self.gone.get(line)?
+    }
+
+    // The stage in which its value went into another line.
+    pub fn held(&self, line: usize) -> Option<Stage> {
+        *self.held.get(line)?
+    }
+
+    // Notes of the first `n` lines that they are gone, or that their values are in others, after a stage. What is noted stays.
+    fn note(&mut self, stage: Stage, n: usize, records: &[u8]) {
+        for i in 0..n.min(LINES) {
+            match reader::record_at(Form::Ol, records, i) {
+                Went::Equal(_) | Went::Changed(_) => {}
+                Went::Inside(_) => self.held[i] = self.held[i].or(Some(stage)),
+                Went::Away => self.gone[i] = self.gone[i].or(Some(stage)),
+            }
+        }
+    }
+
+    // Runs the stages up to one over a listing, and notes what became of its lines.
+    fn run(
+        &mut self,
+        stage: Stage,
+        mode: usize,
+        text: &[u8],
+        tidy: &mut [u8],
+        records: &mut [u8],
+    ) -> Answer {
+        let answer = run_first(stage.number(), mode, text, tidy, records);
+        if answer.is_ok() {
+            self.note(stage, lines::count_lines(text), records);
+        }
+        answer
+    }
+
+    // Runs all stages, one more each time. What the last run answers is left in `tidy` and `records`.
+    pub fn run_all(
+        &mut self,
+        mode: usize,
+        text: &[u8],
+        tidy: &mut [u8],
+        records: &mut [u8],
+    ) -> Answer {
+        for stage in BEFORE_LAST {
+            self.run(stage, mode, text, tidy, records)?;
+        }
+        self.run(Stage::Bind, mode, text, tidy, records)
+    }
 }
 
 // Runs the first stages over a listing, with the work buffers that they need.
 fn run_first(n: usize, mode: usize, text: &[u8], out: &mut [u8], orig: &mut [u8]) -> Answer {
-    let mut a = work_room();
-    let mut b = work_room();
-    let mut c = work_room();
-    let mut d = work_room();
-    let mut e = work_room();
-    let mut u = block_room();
+    let mut a = [0; BYTES];
+    let mut b = [0; BYTES];
+    let mut c = [0; BYTES];
+    let mut d = [0; BYTES];
+    let mut e = [0; BYTES];
+    let mut u = [0; BLOCKS];
     opt::run_stages(
         n, mode, text, &mut a, &mut b, &mut c, &mut d, &mut e, &mut u, out, orig,
     )
-}
-
-// Notes a stage of a line, unless one is noted.
-fn note(stage: u8, stages: &mut [u8], i: usize) {
-    if i < stages.len() {
-        if stages[i] == 0 {
-            stages[i] = stage;
-        }
-    }
-}
-
-// Notes of line `i` that it is gone, or that its value is in another line, after a stage.
-fn note_line(stage: u8, w: Went, gone: &mut [u8], held: &mut [u8], i: usize) {
-    match w {
-        Went::Equal(n) => {}
-        Went::Changed(n) => {}
-        Went::Inside(n) => note(stage, held, i),
-        Went::Away => note(stage, gone, i),
-    }
-}
-
-// The same of the first `n` lines.
-fn note_lines(stage: u8, n: usize, records: &[u8], gone: &mut [u8], held: &mut [u8]) {
-    let mut i = 0;
-    while i < n {
-        note_line(
-            stage,
-            reader::record_at(Form::Ol, records, i),
-            gone,
-            held,
-            i,
-        );
-        i += 1;
-    }
-}
-
-// Runs all stages, one more each time, and notes for each line the stage in which it went, and that in which its value went into another line; 0 where there
-// is none. What the last run answers is left in `tidy` and `records`.
-pub fn run_all(
-    mode: usize,
-    text: &[u8],
-    tidy: &mut [u8],
-    records: &mut [u8],
-    gone: &mut [u8],
-    held: &mut [u8],
-) -> Answer {
-    let n = lines::count_lines(text);
-    let mut k = 1;
-    while k < STAGES {
-        let answer = run_first(k, mode, text, tidy, records);
-        if limits::number_of(answer) != 0 {
-            return answer;
-        }
-        note_lines(k as u8, n, records, gone, held);
-        k += 1;
-    }
-    let answer = run_first(STAGES, mode, text, tidy, records);
-    if limits::number_of(answer) == 0 {
-        note_lines(STAGES as u8, n, records, gone, held);
-    }
-    answer
 }
