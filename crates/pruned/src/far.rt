@@ -16,6 +16,7 @@ fn find_many(s: &[u8], i: usize, b: u8) -> usize
     }
     let n = s.len() - MANY;
     let mut j = i;
+    // Kept: the place goes on by many bytes at once and is where the search byte by byte begins.
     while j <= n {
         if lines::lacks(&s[j..j + MANY], b) {
             j += MANY;

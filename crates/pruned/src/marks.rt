@@ -18,14 +18,9 @@ fn put_zeros(out: &mut [u8], o: usize, n: usize) -> usize
     requires { o + n ≤ length out.old }
     ensures { Wrote out.old o (replicate n 0) out.new result }
 {
-    let mut i = 0;
-    let mut p = o;
-    while i < n {
-        out[p] = 0;
-        p += 1;
-        i += 1;
-    }
-    p
+    let e = o + n;
+    out[o..e].fill(0);
+    e
 }
 
 // Writes so many bytes: those of a text, and then zeros.
