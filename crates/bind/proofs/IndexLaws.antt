@@ -8,7 +8,7 @@ use borrow.Author.Tests.{lt-ltb, le-ltb, eq-eqb, ne_eqb, eqb-false}
 use lib.Dec.{eqb, ltb}
 use lib.ListN.{length, take, drop, get_or, set, length-set}
 use Rattle.lines.specs.Lf.{part, up_to, prefixed, ends_in, lines_of, parts_of}
-use Rattle.lines.proofs.LfLaws.{lines-at, lines_end, parts_at, parts-at-end}
+use Rattle.lines.proofs.LfLaws.{lines-at, lines_end}
 use Rattle.text.specs.Trim.{from_of, trim_of}
 use Rattle.names.specs.Names.{reg_of}
 use Rattle.std.specs.declared.option.Option.{Option}
@@ -300,17 +300,21 @@ module _ (own : List ℕ) where
         pieces-over ps (mark_name own m (reg_of (trim_of p)) d) (again_name own m b (reg_of (trim_of p)) d u)
         ∙ ap (again_pieces own m b ps (mark_name own m (reg_of (trim_of p)) d)) (again-over (reg_of (trim_of p)) d u)
 
-  -- ---- the loop over the pieces of a declaration: those from i on are still to be seen
+  -- ---- the loop over the pieces of a declaration: those that are left are still to be seen
 
-  pub record SeeInv (m b : ℕ) (s d₀ u₀ d u : List ℕ) (i : ℕ) : Type 0 where
-    pub i≤ : i ≤ length s
+  pub record SeeInv (m b : ℕ) (ps left : List (List ℕ)) (d₀ u₀ d u : List ℕ) : Type 0 where
     pub long-d : length d ≡ length d₀
     pub long-u : length u ≡ length u₀
-    pub seen : seen_pieces own m (parts_of 44 (drop i s)) d ≡ seen_pieces own m (parts_of 44 s) d₀
-    pub again : again_pieces own m b (parts_of 44 (drop i s)) d u ≡ again_pieces own m b (parts_of 44 s) d₀ u₀
+    pub seen : seen_pieces own m left d ≡ seen_pieces own m ps d₀
+    pub again : again_pieces own m b left d u ≡ again_pieces own m b ps d₀ u₀
 
-  pub see-start : (m b : ℕ) (s d u : List ℕ) → SeeInv m b s d u d u 0
-  see-start m b s d u = record { i≤ = omega arith; long-d = refl; long-u = refl; seen = refl; again = refl }
+  pub see-start : {ps left : List (List ℕ)} (m b : ℕ) (d u : List ℕ) → left ≡ ps → SeeInv m b ps left d u d u
+  see-start m b d u e = record {
+    long-d = refl;
+    long-u = refl;
+    seen = ap (λ (qs : List (List ℕ)). seen_pieces own m qs d) e;
+    again = ap (λ (qs : List (List ℕ)). again_pieces own m b qs d u) e;
+  }
 
   seen-cons : (m : ℕ) (p : List ℕ) (ps : List (List ℕ)) (d : List ℕ) → seen_pieces own m (p ∷ ps) d ≡ seen_pieces own m ps (mark_name own m (reg_of (trim_of p)) d)
   unfolding seen_pieces
@@ -328,36 +332,27 @@ module _ (own : List ℕ) where
   unfolding again_pieces
   again-nil m b d u = refl
 
-  module _ {m b : ℕ} {s d₀ u₀ d u : List ℕ} {i : ℕ} (h : SeeInv m b s d₀ u₀ d u i) (e : ℕ) (q : e ≡ i + up_to 44 (drop i s)) (t : List ℕ) (z : t ≡ trim_of (part i e s)) {d' u' : List ℕ} (x : d' ≡ mark_name own m (reg_of t) d) (y : u' ≡ again_name own m b (reg_of t) d u) where
-    pub see-long-d : length d' ≡ length d₀
-    see-long-d = ap length x ∙ name-length own m (reg_of t) d ∙ h.long-d
+  module _ {m b : ℕ} {ps left : List (List ℕ)} {d₀ u₀ d u : List ℕ} (h : SeeInv m b ps left d₀ u₀ d u) where
+    pub see-on : {w : List ℕ} {more : List (List ℕ)} → left ≡ w ∷ more → (t : List ℕ) → t ≡ trim_of w → {d' u' : List ℕ} → d' ≡ mark_name own m (reg_of t) d → u' ≡ again_name own m b (reg_of t) d u →
+        SeeInv m b ps more d₀ u₀ d' u'
+    see-on {w} {more} e t z {d'} {u'} x y =
+        let here-d : mark_name own m (reg_of (trim_of w)) d ≡ d' = ap (λ (r : List ℕ). mark_name own m (reg_of r) d) (sym z) ∙ sym x in
+        let here-u : again_name own m b (reg_of (trim_of w)) d u ≡ u' = ap (λ (r : List ℕ). again_name own m b (reg_of r) d u) (sym z) ∙ sym y in
+        record {
+          long-d = ap length x ∙ name-length own m (reg_of t) d ∙ h.long-d;
+          long-u = ap length y ∙ again-length m b (reg_of t) d u ∙ h.long-u;
+          seen = sym (ap (λ (qs : List (List ℕ)). seen_pieces own m qs d) e ∙ seen-cons m w more d ∙ ap (seen_pieces own m more) here-d) ∙ h.seen;
+          again =
+              sym (ap (λ (qs : List (List ℕ)). again_pieces own m b qs d u) e ∙ again-cons m b w more d u
+              ∙ ap (λ (c : List ℕ). again_pieces own m b more c (again_name own m b (reg_of (trim_of w)) d u)) here-d ∙ ap (again_pieces own m b more d') here-u)
+              ∙ h.again;
+        }
 
-    pub see-long-u : length u' ≡ length u₀
-    see-long-u = ap length y ∙ again-length m b (reg_of t) d u ∙ h.long-u
-
-    here-d : mark_name own m (reg_of (trim_of (part i e s))) d ≡ d'
-    here-d = ap (λ (r : List ℕ). mark_name own m (reg_of r) d) (sym z) ∙ sym x
-
-    here-u : again_name own m b (reg_of (trim_of (part i e s))) d u ≡ u'
-    here-u = ap (λ (r : List ℕ). again_name own m b (reg_of r) d u) (sym z) ∙ sym y
-
-    pub see-on : e < length s → SeeInv m b s d₀ u₀ d' u' (e + 1)
-    see-on l = record {
-      i≤ = omega arith;
-      long-d = see-long-d;
-      long-u = see-long-u;
-      seen = sym (ap (λ (ps : List (List ℕ)). seen_pieces own m ps d) (parts_at 44 s i e h.i≤ q l) ∙ seen-cons m (part i e s) (parts_of 44 (drop (e + 1) s)) d ∙ ap (seen_pieces own m (parts_of 44 (drop (e + 1) s))) here-d) ∙ h.seen;
-      again =
-          sym (ap (λ (ps : List (List ℕ)). again_pieces own m b ps d u) (parts_at 44 s i e h.i≤ q l) ∙ again-cons m b (part i e s) (parts_of 44 (drop (e + 1) s)) d u
-          ∙ ap (λ (c : List ℕ). again_pieces own m b (parts_of 44 (drop (e + 1) s)) c (again_name own m b (reg_of (trim_of (part i e s))) d u)) here-d ∙ ap (again_pieces own m b (parts_of 44 (drop (e + 1) s)) d') here-u)
-          ∙ h.again;
-    }
-
-    pub see-last-d : length s ≤ e → d' ≡ seen_pieces own m (parts_of 44 s) d₀
-    see-last-d l = sym (ap (λ (ps : List (List ℕ)). seen_pieces own m ps d) (parts-at-end 44 s i e h.i≤ q l) ∙ seen-cons m (part i e s) [] d ∙ seen-nil m _ ∙ here-d) ∙ h.seen
-
-    pub see-last-u : length s ≤ e → u' ≡ again_pieces own m b (parts_of 44 s) d₀ u₀
-    see-last-u l = sym (ap (λ (ps : List (List ℕ)). again_pieces own m b ps d u) (parts-at-end 44 s i e h.i≤ q l) ∙ again-cons m b (part i e s) [] d u ∙ again-nil m b _ _ ∙ here-u) ∙ h.again
+    pub see-end : left ≡ [] → (d ≡ seen_pieces own m ps d₀) × (u ≡ again_pieces own m b ps d₀ u₀)
+    see-end e = (
+      sym (ap (λ (qs : List (List ℕ)). seen_pieces own m qs d) e ∙ seen-nil m d) ∙ h.seen,
+      sym (ap (λ (qs : List (List ℕ)). again_pieces own m b qs d u) e ∙ again-nil m b d u) ∙ h.again,
+    )
 
   -- ---- a line
 

@@ -133,14 +133,8 @@ fn see_pieces(
     ensures marked { seen.new ≡ seen_pieces own.now m (parts_of 44 body.now) seen.old }
     ensures again { first.new ≡ again_pieces own.now m b (parts_of 44 body.now) seen.old first.old }
 {
-    let mut i = 0;
-    loop {
-        let e = lines::find_byte(body, i, b',');
-        see_name(text::trim(&body[i..e]), own, m, b, seen, first);
-        if e >= body.len() {
-            return;
-        }
-        i = e + 1;
+    for piece in lines::pieces(body, b',') {
+        see_name(text::trim(piece), own, m, b, seen, first);
     }
 }
 

@@ -1,35 +1,23 @@
 use native.Mathlib.Omega.{arith}
-use Rattle.lines.proofs.LfLaws.{find-le}
-use Rattle.bind.proofs.IndexLaws.{see-start, see-long-d, see-long-u, see-on, see-last-d, see-last-u}
+use mathlib.Core.Path.{ap, ◌∙◌}
+use Rattle.lines.specs.Inner.Pieces.{pieces_left}
+use Rattle.bind.proofs.IndexLaws.{see-start, see-on, see-end}
 use Rattle.bind.proofs.index.see_pieces.Goals as goal
 
-pub loop-m-init : goal.loop-m-init
-loop-m-init c = let a = c.args in see-start a.own.now a.m a.b a.body.now a.seen.now a.first.now
-
-pub slice_bounds-trim-count : goal.slice_bounds-trim-count
-slice_bounds-trim-count c = omega (arith, c.find_byte-e.ensures)
-
-pub slice_bounds-trim-start : goal.slice_bounds-trim-start
-slice_bounds-trim-start c = omega (arith, c.find_byte-e.ensures)
-
-pub slice_bounds-trim-end : goal.slice_bounds-trim-end
-slice_bounds-trim-end c = omega (arith, find-le 44 c.args.body.now c.loop-m.i c.find_byte-e.result c.loop-m.invariant.i≤ c.find_byte-e.ensures)
+pub loop-piece-init : goal.loop-piece-init
+loop-piece-init c = let a = c.args in see-start a.own.now a.m a.b a.seen.now a.first.now (ap pieces_left c.into_iter-piece-iterator.ensures.into_iter_gives ∙ c.pieces-piece-items.ensures)
 
 pub see_name-requires : goal.see_name-requires
-see_name-requires c = omega (arith, c.requires, c.loop-m.invariant.long-d, c.loop-m.invariant.long-u)
+see_name-requires c = omega (arith, c.requires, c.loop-piece.invariant.long-d, c.loop-piece.invariant.long-u)
 
-pub shape_of-seen-then-e-body : goal.shape_of-seen-then-e-body
-shape_of-seen-then-e-body c = see-long-d _ c.loop-m.invariant c.find_byte-e.result c.find_byte-e.ensures c.trim.result.now c.trim.ensures.0 c.see_name.ensures.marked c.see_name.ensures.again
+pub loop-piece-preserved : goal.loop-piece-preserved
+loop-piece-preserved c = let s = c.see_name.ensures in see-on _ c.loop-piece.invariant c.in-Some.ensures.steps c.trim.result.now c.trim.ensures.0 s.marked s.again
 
-pub shape_of-first-then-e-body : goal.shape_of-first-then-e-body
-shape_of-first-then-e-body c = see-long-u _ c.loop-m.invariant c.find_byte-e.result c.find_byte-e.ensures c.trim.result.now c.trim.ensures.0 c.see_name.ensures.marked c.see_name.ensures.again
+pub shape_of-seen : goal.shape_of-seen
+shape_of-seen c = c.loop-piece.invariant.long-d
 
-pub returns-then-e-body : goal.returns-then-e-body
-returns-then-e-body c =
-    record { marked = see-last-d _ c.loop-m.invariant c.find_byte-e.result c.find_byte-e.ensures c.trim.result.now c.trim.ensures.0 c.see_name.ensures.marked c.see_name.ensures.again c.if-e-body.true; again = see-last-u _ c.loop-m.invariant c.find_byte-e.result c.find_byte-e.ensures c.trim.result.now c.trim.ensures.0 c.see_name.ensures.marked c.see_name.ensures.again c.if-e-body.true }
+pub shape_of-first : goal.shape_of-first
+shape_of-first c = c.loop-piece.invariant.long-u
 
-pub loop-m-smaller : goal.loop-m-smaller
-loop-m-smaller c = omega (arith, c.find_byte-e.ensures)
-
-pub loop-m-preserved : goal.loop-m-preserved
-loop-m-preserved c = see-on _ c.loop-m.invariant c.find_byte-e.result c.find_byte-e.ensures c.trim.result.now c.trim.ensures.0 c.see_name.ensures.marked c.see_name.ensures.again c.if-e-body.false
+pub returns : goal.returns
+returns c = let whole = see-end _ c.loop-piece.invariant c.in-None.ensures.steps.0 in record { marked = whole.0; again = whole.1 }
