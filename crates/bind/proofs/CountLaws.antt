@@ -10,7 +10,7 @@ use lib.Dec.{eqb, ltb}
 use lib.ListN.{length, get_or, drop, length-drop, get_or-eq_default}
 use lib.Seq.{drop-drop, get_or-drop}
 use Rattle.lines.specs.Lf.{part, up_to, lines_of, parts_of}
-use Rattle.lines.proofs.LfLaws.{lines-at, lines_end, parts_at, parts-at-end}
+use Rattle.lines.proofs.LfLaws.{lines-at, lines_end}
 use Rattle.lines.proofs.Tests.{and-false, no}
 use Rattle.text.specs.Trim.{lead, from_of, end_white, to_of, trim_of}
 use Rattle.names.specs.Names.{reg_of, reg_is}

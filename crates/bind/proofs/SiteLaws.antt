@@ -8,9 +8,9 @@ use borrow.Author.Tests.{eq-eqb, ne_eqb, eqb-true}
 use lib.Dec.{eqb, ltb}
 use lib.ListN.{length, get_or, set, take, drop, length-set}
 use lib.Seq.{get_or-drop}
-use Rattle.lines.specs.Lf.{part, up_to, prefixed, lines_of, parts_of}
+use Rattle.lines.specs.Lf.{part, prefixed, lines_of, parts_of}
 use Rattle.lines.proofs.Tests.{no, and_left, and_right, or-false}
-use Rattle.lines.proofs.LfLaws.{parts_at, parts-at-end, rest_of}
+use Rattle.lines.proofs.LfLaws.{rest_of}
 use Rattle.lines.proofs.OutLaws.{Writing, writing_start, writing-as}
 use Rattle.text.specs.Trim.{from_of, to_of, trim_of}
 use Rattle.names.specs.Names.{reg_of}
@@ -71,13 +71,12 @@ module _ (f : ℕ → Bool) where
   unfolding any_pass
   pass-nil = refl
 
-  module _ (s : List ℕ) (i e : ℕ) (h : i ≤ length s) (q : e ≡ i + up_to 44 (drop i s)) (b : Bool) (z : b ≡ passes f (reg_of (trim_of (part i e s)))) where
-    -- a says whether some piece above passes
-    pub pass_on : e < length s → (a : Bool) → a || any_pass f (parts_of 44 (drop i s)) ≡ (a || b) || any_pass f (parts_of 44 (drop (e + 1) s))
-    pass_on l a = ap (λ (x : Bool). a || x) (ap (any_pass f) (parts_at 44 s i e h q l) ∙ pass-cons (part i e s) _ b z) ∙ or-more a b (any_pass f (parts_of 44 (drop (e + 1) s)))
+  -- a says whether some piece above passes
+  pub pass-on : {w : List ℕ} {left more : List (List ℕ)} → left ≡ w ∷ more → (b : Bool) → b ≡ passes f (reg_of (trim_of w)) → (a : Bool) → a || any_pass f left ≡ (a || b) || any_pass f more
+  pass-on {w} {left} {more} e b z a = ap (λ (x : Bool). a || x) (ap (any_pass f) e ∙ pass-cons w more b z) ∙ or-more a b (any_pass f more)
 
-    pub pass-last : length s ≤ e → (a : Bool) → a || any_pass f (parts_of 44 (drop i s)) ≡ a || b
-    pass-last l a = ap (λ (x : Bool). a || x) (ap (any_pass f) (parts-at-end 44 s i e h q l) ∙ pass-cons (part i e s) [] b z ∙ ap (λ (x : Bool). b || x) pass-nil ∙ or-false b)
+  pub pass-end : {left : List (List ℕ)} → left ≡ [] → (a : Bool) → a || any_pass f left ≡ a
+  pass-end e a = ap (λ (x : Bool). a || x) (ap (any_pass f) e ∙ pass-nil) ∙ or-false a
 
 -- ---- marks
 
@@ -117,19 +116,13 @@ module _ (f : ℕ → Bool) (g : ℕ → ℕ) where
       go None y n = n y
       go (Some q) y n = by (f q.0) (g q.0) y n
 
-  module _ (s : List ℕ) (i e : ℕ) (h : i ≤ length s) (q : e ≡ i + up_to 44 (drop i s)) (t : List ℕ) (z : t ≡ trim_of (part i e s)) (m m' : List ℕ) (y : m' ≡ noted f g (reg_of t) m) where
-    noted_here : noted f g (reg_of (trim_of (part i e s))) m ≡ m'
-    noted_here = ap (λ (r : List ℕ). noted f g (reg_of r) m) (sym z) ∙ sym y
+  pub noted-on : {w : List ℕ} {left more : List (List ℕ)} → left ≡ w ∷ more → (t : List ℕ) → t ≡ trim_of w → (m m' : List ℕ) → m' ≡ noted f g (reg_of t) m → noted_all f g left m ≡ noted_all f g more m'
+  noted-on {w} {left} {more} e t z m m' y =
+      ap (λ (ps : List (List ℕ)). noted_all f g ps m) e ∙ noted-cons w more m
+      ∙ ap (noted_all f g more) (ap (λ (r : List ℕ). noted f g (reg_of r) m) (sym z) ∙ sym y)
 
-    pub noted-on : e < length s → noted_all f g (parts_of 44 (drop i s)) m ≡ noted_all f g (parts_of 44 (drop (e + 1) s)) m'
-    noted-on l =
-        ap (λ (ps : List (List ℕ)). noted_all f g ps m) (parts_at 44 s i e h q l) ∙ noted-cons (part i e s) _ m
-        ∙ ap (noted_all f g (parts_of 44 (drop (e + 1) s))) noted_here
-
-    pub noted-last : length s ≤ e → noted_all f g (parts_of 44 (drop i s)) m ≡ m'
-    noted-last l =
-        ap (λ (ps : List (List ℕ)). noted_all f g ps m) (parts-at-end 44 s i e h q l) ∙ noted-cons (part i e s) [] m
-        ∙ noted-nil (noted f g (reg_of (trim_of (part i e s))) m) ∙ noted_here
+  pub noted-end : {left : List (List ℕ)} → left ≡ [] → (m : List ℕ) → noted_all f g left m ≡ m
+  noted-end e m = ap (λ (ps : List (List ℕ)). noted_all f g ps m) e ∙ noted-nil m
 
   module _ (r : Option Register) (m : List ℕ) where
     pub noted_other : r ≡ None → m ≡ noted f g r m

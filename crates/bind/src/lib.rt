@@ -309,27 +309,13 @@ fn mark_names(
     ensures answer { result ≡ any_pass (bound_at text.now s blocks.now starts.now) (parts_of 44 body.now) }
     ensures memory { marks.new ≡ noted_all (bound_at text.now s blocks.now starts.now) (mark_row text.now s) (parts_of 44 body.now) marks.old }
 {
-    let mut i = 0;
     let mut any = false;
-    loop {
-        let e = lines::find_byte(body, i, b',');
-        let b = mark_name(
-            text,
-            own,
-            s,
-            blocks,
-            starts,
-            seen,
-            first,
-            text::trim(&body[i..e]),
-            marks,
-        );
+    for piece in lines::pieces(body, b',') {
+        let name = text::trim(piece);
+        let b = mark_name(text, own, s, blocks, starts, seen, first, name, marks);
         any = any | b;
-        if e >= body.len() {
-            return any;
-        }
-        i = e + 1;
     }
+    any
 }
 
 // Writes a declaration without the names that are bound, with its LF; nothing where none is left.

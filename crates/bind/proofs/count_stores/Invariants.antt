@@ -1,6 +1,6 @@
 use Prim.Native.Nat.{◌+◌, ◌≤◌, min}
 use mathlib.Core.Path.{◌≡◌}
-use lib.ListN.{length, drop}
+use lib.ListN.{drop}
 use Rattle.lines.specs.Lf.{lines_of}
 use Rattle.bind.specs.Bind.{store_count}
 use Rattle.lines.proofs.EachLaws.{Over}

@@ -1,43 +1,48 @@
 use Prim.Native.Nat.{ℕ}
 use native.Mathlib.Omega.{arith}
+use mathlib.Core.Bool.{false, ◌||◌}
 use mathlib.Core.List.{List}
 use mathlib.Core.Path.{refl, sym, ap, ◌∙◌}
 use lib.ListN.{length}
-use Rattle.lines.proofs.LfLaws.{find-le}
+use Rattle.lines.specs.Inner.Pieces.{pieces_left}
 use Rattle.names.specs.Names.{reg_of}
-use Rattle.bind.specs.Inner.Steps.{bound_at, mark_row, passes}
-use Rattle.bind.proofs.SiteLaws.{pass_on, pass-last, noted-length, noted-on, noted-last}
+use Rattle.bind.specs.Inner.Steps.{bound_at, mark_row, passes, any_pass, noted_all}
+use Rattle.bind.proofs.SiteLaws.{pass-on, pass-end, noted-length, noted-on, noted-end}
 use Rattle.bind.proofs.mark_names.Goals as goal
 
-pub loop-s-init : goal.loop-s-init
-loop-s-init c = (omega arith, (refl, (refl, refl)))
-
-pub slice_bounds-trim-count : goal.slice_bounds-trim-count
-slice_bounds-trim-count c = omega (arith, c.find_byte-e.ensures)
-
-pub slice_bounds-trim-start : goal.slice_bounds-trim-start
-slice_bounds-trim-start c = omega (arith, c.find_byte-e.ensures)
-
-pub slice_bounds-trim-end : goal.slice_bounds-trim-end
-slice_bounds-trim-end c = omega (arith, find-le 44 c.args.body.now c.loop-s.i c.find_byte-e.result c.loop-s.invariant.0 c.find_byte-e.ensures)
+pub loop-piece-init : goal.loop-piece-init
+loop-piece-init c =
+    let a = c.args in
+    let bound = bound_at a.text.now a.s a.blocks.now a.starts.now in
+    let e = ap pieces_left c.into_iter-piece-iterator.ensures.into_iter_gives ∙ c.pieces-piece-items.ensures in
+    (refl, (ap (λ (ps : List (List ℕ)). noted_all bound (mark_row a.text.now a.s) ps a.marks.now) e, ap (λ (ps : List (List ℕ)). false || any_pass bound ps) e))
 
 pub mark_name-b-requires : goal.mark_name-b-requires
-mark_name-b-requires c = (c.requires.0, omega (arith, c.requires.1, c.loop-s.invariant.1.0))
+mark_name-b-requires c = (c.requires.0, omega (arith, c.requires.1, c.loop-piece.invariant.0))
 
-pub shape_of-marks-then-e-body : goal.shape_of-marks-then-e-body
-shape_of-marks-then-e-body c = let a = c.args in
-    ap length c.mark_name-b.ensures.memory ∙ noted-length (bound_at a.text.now a.s a.blocks.now a.starts.now) (mark_row a.text.now a.s) (reg_of c.trim.result.now) c.loop-s.marks ∙ c.loop-s.invariant.1.0
-
-pub returns-then-e-body : goal.returns-then-e-body
-returns-then-e-body c =
+pub loop-piece-preserved : goal.loop-piece-preserved
+loop-piece-preserved c =
     let a = c.args in
-    let f = c.find_byte-e in
-    record { answer = sym (pass-last (bound_at a.text.now a.s a.blocks.now a.starts.now) a.body.now c.loop-s.i f.result c.loop-s.invariant.0 f.ensures c.mark_name-b.result (c.mark_name-b.ensures.answer ∙ ap (λ (t : List ℕ). passes (bound_at a.text.now a.s a.blocks.now a.starts.now) (reg_of t)) c.trim.ensures.0) c.if-e-body.true c.loop-s.any) ∙ c.loop-s.invariant.1.1.1; memory = sym (noted-last (bound_at a.text.now a.s a.blocks.now a.starts.now) (mark_row a.text.now a.s) a.body.now c.loop-s.i f.result c.loop-s.invariant.0 f.ensures c.trim.result.now c.trim.ensures.0 c.loop-s.marks _ c.mark_name-b.ensures.memory c.if-e-body.true) ∙ c.loop-s.invariant.1.1.0 }
+    let l = c.loop-piece in
+    let bound = bound_at a.text.now a.s a.blocks.now a.starts.now in
+    let row = mark_row a.text.now a.s in
+    let e = c.in-Some.ensures.steps in
+    let t = c.trim-name in
+    let b = c.mark_name-b in (
+      ap length b.ensures.memory ∙ noted-length bound row (reg_of t.result.now) l.marks ∙ l.invariant.0,
+      (
+        sym (noted-on bound row e t.result.now t.ensures.0 l.marks _ b.ensures.memory) ∙ l.invariant.1.0,
+        sym (pass-on bound e b.result (b.ensures.answer ∙ ap (λ (n : List ℕ). passes bound (reg_of n)) t.ensures.0) l.any) ∙ l.invariant.1.1,
+      ),
+    )
 
-pub loop-s-smaller : goal.loop-s-smaller
-loop-s-smaller c = omega (arith, c.find_byte-e.ensures)
+pub shape_of-marks : goal.shape_of-marks
+shape_of-marks c = c.loop-piece.invariant.0
 
-pub loop-s-preserved : goal.loop-s-preserved
-loop-s-preserved c = let a = c.args in
-    let f = c.find_byte-e in
-    (omega arith, (ap length c.mark_name-b.ensures.memory ∙ noted-length (bound_at a.text.now a.s a.blocks.now a.starts.now) (mark_row a.text.now a.s) (reg_of c.trim.result.now) c.loop-s.marks ∙ c.loop-s.invariant.1.0, (sym (noted-on (bound_at a.text.now a.s a.blocks.now a.starts.now) (mark_row a.text.now a.s) a.body.now c.loop-s.i f.result c.loop-s.invariant.0 f.ensures c.trim.result.now c.trim.ensures.0 c.loop-s.marks _ c.mark_name-b.ensures.memory c.if-e-body.false) ∙ c.loop-s.invariant.1.1.0, sym (pass_on (bound_at a.text.now a.s a.blocks.now a.starts.now) a.body.now c.loop-s.i f.result c.loop-s.invariant.0 f.ensures c.mark_name-b.result (c.mark_name-b.ensures.answer ∙ ap (λ (t : List ℕ). passes (bound_at a.text.now a.s a.blocks.now a.starts.now) (reg_of t)) c.trim.ensures.0) c.if-e-body.false c.loop-s.any) ∙ c.loop-s.invariant.1.1.1)))
+pub returns : goal.returns
+returns c =
+    let a = c.args in
+    let l = c.loop-piece in
+    let bound = bound_at a.text.now a.s a.blocks.now a.starts.now in
+    let e = c.in-None.ensures.steps.0 in
+    record { answer = sym (pass-end bound e l.any) ∙ l.invariant.1.1; memory = sym (noted-end bound (mark_row a.text.now a.s) e l.marks) ∙ l.invariant.1.0 }
