@@ -9,7 +9,7 @@ use lib.ListN.{length, take, drop, length-drop, take-append-drop}
 use lib.Seq.{length-take-le, drop-append_seam}
 use Rattle.lines.specs.Lf.{within}
 use Rattle.text.specs.Utf8Form.{seq_len, begins, grammar, scan, utf8_of}
-use Rattle.std.specs.declared.result.Result.TheVariants.{Ok, Err}
+use Rattle.std.specs.declared.result.Result.TheVariants.{Ok}
 use Rattle.text.specs.Trim.{white_char, trim_end, trim_of}
 use Rattle.text.proofs.Rows.{seq_len-fits}
 use Rattle.text.proofs.Scan.{first-bad, first_on}

@@ -10,9 +10,6 @@ pub loop-i-init : goal.loop-i-init
 unfolding from_of
 loop-i-init c = (omega arith, omega arith)
 
-pub white_at-n-requires : goal.white_at-n-requires
-white_at-n-requires c = c.loop-i-test.true
-
 pub returns-then-n-eq0 : goal.returns-then-n-eq0
 returns-then-n-eq0 c = let s = c.args.s.now in let i = c.loop-i.i in let k = front-stop s i c.loop-i-test.true (sym c.white_at-n.ensures ∙ c.if-n-eq0.true) in omega arith
 

@@ -14,6 +14,3 @@ slice_bounds-trim_to-start c = omega (arith, from_of-le c.args.s.now)
 
 pub overflow_add-result : goal.overflow_add-result
 overflow_add-result c = let s = c.args.s.now in let a = c.trim_from-a.result in let q : to_of (take (length s - a) (drop a s)) ≡ to_of (drop (from_of s) s) = ap to_of (rest_of s a ∙ ap (λ n. drop n s) c.trim_from-a.ensures) in omega (arith, to_end-le s)
-
-pub returns : goal.returns
-returns c = let s = c.args.s.now in let a = c.trim_from-a.result in let q : to_of (take (length s - a) (drop a s)) ≡ to_of (drop (from_of s) s) = ap to_of (rest_of s a ∙ ap (λ n. drop n s) c.trim_from-a.ensures) in (c.trim_from-a.ensures, omega arith)

@@ -5,12 +5,6 @@ use lib.ListN.{take, drop}
 use Rattle.text.proofs.Trims.{to_end-le, trim-part}
 use Rattle.text.proofs.trim.Goals as goal
 
-pub slice_bounds-result-count : goal.slice_bounds-result-count
-slice_bounds-result-count c = omega (arith, c.trim_span-w.ensures.0, c.trim_span-w.ensures.1)
-
-pub slice_bounds-result-start : goal.slice_bounds-result-start
-slice_bounds-result-start c = omega (arith, c.trim_span-w.ensures.0, c.trim_span-w.ensures.1)
-
 pub slice_bounds-result-end : goal.slice_bounds-result-end
 slice_bounds-result-end c = omega (arith, c.trim_span-w.ensures.1, to_end-le c.args.s.now)
 

@@ -3,27 +3,14 @@ use mathlib.Core.Path.{refl}
 use mathlib.Core.List.{List}
 use native.Mathlib.Omega.{arith}
 use Rattle.names.specs.Names.{reg_of, reg_is}
-use Rattle.words.proofs.RunLaws.{run_inside, count_small, count-end, regs-start, regs-less, regs-next, names-skip}
+use Rattle.words.proofs.RunLaws.{run_inside, count-end, regs-start, regs-less, regs-next, names-skip}
 use Rattle.words.proofs.count_reg.Goals as goal
 
 pub loop-i-init : goal.loop-i-init
 loop-i-init c = let a = c.args in regs-start (λ (r : List ℕ). reg_is a.reg.0 (reg_of r)) (names-skip a.reg.0) a.s.now c.reg_start-i.result c.reg_start-i.ensures
 
-pub slice_bounds-names_reg-count : goal.slice_bounds-names_reg-count
-slice_bounds-names_reg-count c = omega (arith, c.run_end-e.ensures)
-
-pub slice_bounds-names_reg-start : goal.slice_bounds-names_reg-start
-slice_bounds-names_reg-start c = omega (arith, c.run_end-e.ensures)
-
 pub slice_bounds-names_reg-end : goal.slice_bounds-names_reg-end
 slice_bounds-names_reg-end c = omega (arith, c.run_end-e.ensures, run_inside c.args.s.now c.loop-i.i c.loop-i.invariant.i≤)
-
-pub overflow_add-n : goal.overflow_add-n
-overflow_add-n c =
-    let a = c.args in
-    let l = c.loop-i in
-    let k = count_small (λ (r : List ℕ). reg_is a.reg.0 (reg_of r)) a.s.now l.invariant c.loop-i-test.true _ c.run_end-e.ensures _ refl _ c.names_reg.ensures _ c.one_if-n.ensures in
-    omega (arith, k, l.invariant.n≤, c.loop-i-test.true)
 
 pub loop-i-smaller : goal.loop-i-smaller
 loop-i-smaller c =

@@ -9,12 +9,6 @@ use Rattle.words.proofs.next_long.Goals as goal
 pub loop-j-init : goal.loop-j-init
 loop-j-init c = let a = c.args in next_start (reg_run a.reg.0) (reg-skips a.reg.0) a.s.now a.i _ c.reg_start-j.ensures
 
-pub slice_bounds-is_reg_text-count : goal.slice_bounds-is_reg_text-count
-slice_bounds-is_reg_text-count c = omega (arith, c.run_end-e.ensures)
-
-pub slice_bounds-is_reg_text-start : goal.slice_bounds-is_reg_text-start
-slice_bounds-is_reg_text-start c = omega (arith, c.run_end-e.ensures)
-
 pub slice_bounds-is_reg_text-end : goal.slice_bounds-is_reg_text-end
 slice_bounds-is_reg_text-end c =
     let l : c.loop-j.j ≤ length c.args.s.now = omega arith in

@@ -1,5 +1,4 @@
 use mathlib.Core.Path.{sym, ◌∙◌}
-use native.Mathlib.Omega.{arith}
 use Rattle.words.proofs.Short.{short-start, short_none, short_on, short-end, short-found}
 use Rattle.words.proofs.next_short.Goals as goal
 
@@ -15,18 +14,11 @@ loop-j-init c =
     let p = c.requires in
     short-start a.d p.0 p.1 a.s.now a.i c.find_byte-j.result c.if-s-i.false c.find_byte-j.ensures
 
-pub overflow_sub-result : goal.overflow_sub-result
-overflow_sub-result c = omega (arith, c.loop-j.invariant.i<)
-
 pub returns-then-short_at : goal.returns-then-short_at
 returns-then-short_at c =
     let a = c.args in
     let p = c.requires in
     short-found a.d p.0 p.1 a.s.now a.i c.loop-j.invariant c.loop-j-test.true (sym c.short_at.ensures ∙ c.if-short_at.true)
-
-pub loop-j-smaller : goal.loop-j-smaller
-loop-j-smaller c =
-    omega (arith, c.find_byte-j-in-loop-j.ensures, c.loop-j-test.true)
 
 pub loop-j-preserved : goal.loop-j-preserved
 loop-j-preserved c =
