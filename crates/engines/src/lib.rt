@@ -147,10 +147,8 @@ fn keep_goes(marks: &mut [u8], n: usize)
     requires { n ≤ length marks.old }
     ensures { Filled marks.old (flags_of (goes_in (take n marks.old))) marks.new n }
 {
-    let mut k = 0;
-    while k < n {
+    for k in 0..n {
         marks[k] = place::flag(marks[k] == once::MARK_GOES);
-        k += 1;
     }
 }
 

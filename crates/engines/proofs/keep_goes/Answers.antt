@@ -12,9 +12,6 @@ bounds-marks-k c = goes-place c.loop-k.invariant c.loop-k-test.true
 pub bounds-marks-k-in-loop-k : goal.bounds-marks-k-in-loop-k
 bounds-marks-k-in-loop-k c = goes-place c.loop-k.invariant c.loop-k-test.true
 
-pub loop-k-smaller : goal.loop-k-smaller
-loop-k-smaller c = omega (arith, c.loop-k-test.true)
-
 pub loop-k-preserved : goal.loop-k-preserved
 loop-k-preserved c = goes_on c.loop-k.invariant c.loop-k-test.true c.flag.result c.flag.ensures
 
