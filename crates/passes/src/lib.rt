@@ -65,39 +65,35 @@ fn chain(
     let low = low_in(r.len(), v.len(), own.len());
     slots::wipe(own);
     let high = slots::gather::gather(&a[..n], low, own);
-    let to = m.to;
-    let mut j = m.from;
-    while j < to {
+    for j in m.from..m.to {
         if steps::idle(j, &a[..n]) {
-            j += 1;
-        } else {
-            let rows = origins::count_standing(table);
-            let k = steps::step(
-                j,
-                m,
-                rows,
-                &a[..n],
-                front(own, high),
-                b,
-                c,
-                d,
-                e,
-                f,
-                g,
-                h,
-                u,
-                v,
-                w,
-                x,
-                p,
-                q,
-                r,
-                t,
-                table,
-            );
-            n = lines::put(a, 0, &b[..k]);
-            j += 1;
+            continue;
         }
+        let rows = origins::count_standing(table);
+        let k = steps::step(
+            j,
+            m,
+            rows,
+            &a[..n],
+            front(own, high),
+            b,
+            c,
+            d,
+            e,
+            f,
+            g,
+            h,
+            u,
+            v,
+            w,
+            x,
+            p,
+            q,
+            r,
+            t,
+            table,
+        );
+        n = lines::put(a, 0, &b[..k]);
     }
     origins::land(table);
     n

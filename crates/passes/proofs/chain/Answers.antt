@@ -22,20 +22,11 @@ slice_bounds-idle-end c = c.loop-j.invariant.0.front.fits
 pub slice_bounds-idle-end-in-loop-j : goal.slice_bounds-idle-end-in-loop-j
 slice_bounds-idle-end-in-loop-j c = let h = c.loop-j in sym (length-take-le h.n h.a h.invariant.0.front.fits)
 
-pub overflow_add-j : goal.overflow_add-j
-overflow_add-j c = omega (arith, c.loop-j-test.true)
-
-pub loop-j-smaller-then-idle : goal.loop-j-smaller-then-idle
-loop-j-smaller-then-idle c = omega (arith, c.loop-j-test.true)
-
 pub loop-j-preserved-then-idle : goal.loop-j-preserved-then-idle
 loop-j-preserved-then-idle c = let h = c.loop-j.invariant in (chain-idle h.0 c.loop-j-test.true (sym c.idle.ensures ∙ c.if-idle.true), h.1)
 
 pub slice_bounds-step-end : goal.slice_bounds-step-end
 slice_bounds-step-end c = c.loop-j.invariant.0.front.fits
-
-pub slice_bounds-step-end-else-idle : goal.slice_bounds-step-end-else-idle
-slice_bounds-step-end-else-idle c = let h = c.loop-j in sym (length-take-le h.n h.a h.invariant.0.front.fits)
 
 pub step-k-requires : goal.step-k-requires
 step-k-requires c = let h = c.loop-j.invariant in let z = c.requires.1.1 in (chain-rows h.0 c.count_standing-rows.ensures, (chain-room h.0, (same-sized h.1 z.0, same-tabled h.1 z.1.0)))
@@ -43,68 +34,11 @@ step-k-requires c = let h = c.loop-j.invariant in let z = c.requires.1.1 in (cha
 pub slice_bounds-put-end : goal.slice_bounds-put-end
 slice_bounds-put-end c = (wrote-front c.step-k.ensures.answer).fits
 
-pub slice_bounds-put-end-else-idle : goal.slice_bounds-put-end-else-idle
-slice_bounds-put-end-else-idle c = let f = c.step-k in sym (length-take-le f.result f.new.dst (wrote-front f.ensures.answer).fits)
-
 pub put-n-requires : goal.put-n-requires
 put-n-requires c = let h = c.loop-j.invariant in omega (arith, chain_fits h.0 (omega (arith, c.requires.1.0, h.1.a-same, c.split_lines-n.auto.out)) c.step-k.ensures.answer)
 
-pub overflow_add-j-else-idle : goal.overflow_add-j-else-idle
-overflow_add-j-else-idle c = omega (arith, c.loop-j-test.true)
-
-pub loop-j-smaller : goal.loop-j-smaller
-loop-j-smaller c = omega (arith, c.loop-j-test.true)
-
 pub loop-j-preserved : goal.loop-j-preserved
 loop-j-preserved c = let h = c.loop-j.invariant in let f = c.step-k in let s = h.1 in (chain-on h.0 c.loop-j-test.true f.ensures.answer c.put-n.ensures f.ensures.origins, record { a-same = c.put-n.auto.out ∙ s.a-same; b-same = f.auto.dst ∙ s.b-same; c-same = f.auto.c ∙ s.c-same; d-same = f.auto.d ∙ s.d-same; e-same = f.auto.e ∙ s.e-same; f-same = f.auto.f ∙ s.f-same; g-same = f.auto.g ∙ s.g-same; h-same = f.auto.h ∙ s.h-same; u_same = f.auto.u ∙ s.u_same; v-same = f.auto.v ∙ s.v-same; w-same = f.auto.w ∙ s.w-same; x-same = f.auto.x ∙ s.x-same; p-same = f.auto.p ∙ s.p-same; q-same = f.auto.q ∙ s.q-same; r-same = f.auto.r ∙ s.r-same; t_same = f.auto.t ∙ s.t_same; z-same = f.auto.table ∙ s.z-same })
-
-pub shape_of-a : goal.shape_of-a
-shape_of-a c = c.loop-j.invariant.1.a-same ∙ c.split_lines-n.auto.out
-
-pub shape_of-b : goal.shape_of-b
-shape_of-b c = c.loop-j.invariant.1.b-same
-
-pub shape_of-c : goal.shape_of-c
-shape_of-c c = c.loop-j.invariant.1.c-same
-
-pub shape_of-d : goal.shape_of-d
-shape_of-d c = c.loop-j.invariant.1.d-same
-
-pub shape_of-e : goal.shape_of-e
-shape_of-e c = c.loop-j.invariant.1.e-same
-
-pub shape_of-f : goal.shape_of-f
-shape_of-f c = c.loop-j.invariant.1.f-same
-
-pub shape_of-g : goal.shape_of-g
-shape_of-g c = c.loop-j.invariant.1.g-same
-
-pub shape_of-h : goal.shape_of-h
-shape_of-h c = c.loop-j.invariant.1.h-same
-
-pub shape_of-u : goal.shape_of-u
-shape_of-u c = c.loop-j.invariant.1.u_same
-
-pub shape_of-v : goal.shape_of-v
-shape_of-v c = c.loop-j.invariant.1.v-same
-
-pub shape_of-w : goal.shape_of-w
-shape_of-w c = c.loop-j.invariant.1.w-same
-
-pub shape_of-x : goal.shape_of-x
-shape_of-x c = c.loop-j.invariant.1.x-same
-
-pub shape_of-p : goal.shape_of-p
-shape_of-p c = c.loop-j.invariant.1.p-same
-
-pub shape_of-q : goal.shape_of-q
-shape_of-q c = c.loop-j.invariant.1.q-same
-
-pub shape_of-r : goal.shape_of-r
-shape_of-r c = c.loop-j.invariant.1.r-same
-
-pub shape_of-t : goal.shape_of-t
-shape_of-t c = c.loop-j.invariant.1.t_same
 
 pub shape_of-own : goal.shape_of-own
 shape_of-own c = c.gather-high.auto.own ∙ c.wipe-2.auto.table
