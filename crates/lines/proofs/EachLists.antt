@@ -5,7 +5,7 @@ use Rattle.std.proofs.lemmas.Iterator.Consumers.{YieldsList-from_shown}
 use Rattle.std.specs.Prelude.{min}
 use Rattle.lines.specs.declared.each.Line.{Line}
 use Rattle.lines.specs.declared.each.Lines.{Lines}
-use Rattle.lines.specs.Lf.{part, lines_of}
+use Rattle.lines.specs.Lf.{lines_of}
 use Rattle.lines.specs.Inner.Each.{IsLine, GivesLine}
 use Rattle.lines.proofs.LfLaws.{lines-at, lines_end}
 

@@ -1,6 +1,5 @@
 -- Laws of LF form and of cutting. Assumes nothing.
 use Rattle.std.proofs.Common.{◌≡◌, ℕ, zero, suc, ◌+◌, ◌-◌, ◌<◌, ◌≤◌, min, Bool, true, false, cond, not, ◌||◌, eqb, leb, List, [], ◌∷◌, ◌++◌, length, get_or, take, drop, sym, refl, ap, ◌∙◌, add-one, arith, length-drop, drop_of_length-le, get_or-drop, take_all, drop-cons, take-suc, drop-drop, eq-eqb, ne_eqb, leb-false, leb-true}
-use lib.Seq.{take-nil}
 use Rattle.lines.proofs.Tests.{no, and-false, and_left, and_right, and_both}
 use Rattle.lines.specs.Lf.{part, up_to, count_of, cut_on, lines_of, parts_of, unlines, prefixed}
 use Rattle.lines.specs.Inner.Lf.{lacks, no_lf}
@@ -188,38 +187,6 @@ part_none s a = let q : a - a ≡ 0 = omega arith in ap (λ (n : ℕ). take n (d
 pub rest_of : (s : List ℕ) (i : ℕ) → part i (length s) s ≡ drop i s
 rest_of s i = let d = length-drop i s in take_all (length s - i) (drop i s) (omega arith)
 
--- a part that is cut short at the end of the text
-pub part-least : (s : List ℕ) (a e : ℕ) → part (min a (min e (length s))) (min e (length s)) s ≡ part a e s
-part-least s a e = go (leb e (length s)) refl (leb a (min e (length s))) refl
-  where
-    go : (t : Bool) → leb e (length s) ≡ t → (u : Bool) → leb a (min e (length s)) ≡ u → part (min a (min e (length s))) (min e (length s)) s ≡ part a e s
-    go true p true q =
-        let h = leb-true e (length s) p in
-        let k = leb-true a (min e (length s)) q in
-        let x : min e (length s) ≡ e = omega arith in
-        let y : min a (min e (length s)) ≡ a = omega arith in
-        rw (y, x)
-    go true p false q =
-        let h = leb-true e (length s) p in
-        let k = leb-false a (min e (length s)) q in
-        let x : min e (length s) - min a (min e (length s)) ≡ 0 = omega arith in
-        let y : e - a ≡ 0 = omega arith in
-        rw (x, y)
-    go false p true q =
-        let h = leb-false e (length s) p in
-        let k = leb-true a (min e (length s)) q in
-        let y : min a (min e (length s)) ≡ a = omega arith in
-        let d = length-drop a s in
-        rw y (take_all (min e (length s) - a) (drop a s) (omega arith) ∙ sym (take_all (e - a) (drop a s) (omega arith)))
-    go false p false q =
-        let h = leb-false e (length s) p in
-        let k = leb-false a (min e (length s)) q in
-        let x : min e (length s) - min a (min e (length s)) ≡ 0 = omega arith in
-        let d = length-drop a s in
-        let w : length s ≤ a = omega arith in
-        let z : drop a s ≡ [] = drop_of_length-le s w in
-        rw (x, z) (sym (take-nil (e - a)))
-
 -- ---- a prefix
 
 pub short : (p s : List ℕ) → length s < length p → prefixed p s ≡ false
@@ -268,10 +235,6 @@ lacks-cons b x xs h = go (eqb x b) h
     go : (t : Bool) → cond t false (lacks b xs) ≡ true → (t ≡ false) × (lacks b xs ≡ true)
     go true h = no h
     go false h = (refl, h)
-
-pub lacks-with : (b x : ℕ) (xs : List ℕ) (t : Bool) → eqb x b ≡ t → lacks b (x ∷ xs) ≡ cond t false (lacks b xs)
-unfolding lacks
-lacks-with b x xs t e = rw e
 
 -- the first b is past bytes that stand before it
 pub up-skip : (b n : ℕ) (l : List ℕ) → n ≤ up_to b l → up_to b l ≡ n + up_to b (drop n l)
@@ -332,13 +295,6 @@ eight_is s j h =
 pub eight-at : (b : ℕ) (s : List ℕ) (j : ℕ) → j + 8 ≤ length s →
     not (eqb (get_or s j 0) b || (eqb (get_or s (j + 1) 0) b || (eqb (get_or s (j + 2) 0) b || (eqb (get_or s (j + 3) 0) b || (eqb (get_or s (j + 4) 0) b || (eqb (get_or s (j + 5) 0) b || (eqb (get_or s (j + 6) 0) b || eqb (get_or s (j + 7) 0) b))))))) ≡ lacks b (take 8 (drop j s))
 eight-at b s j h = lacks-eight b (get_or s j 0) (get_or s (j + 1) 0) (get_or s (j + 2) 0) (get_or s (j + 3) 0) (get_or s (j + 4) 0) (get_or s (j + 5) 0) (get_or s (j + 6) 0) (get_or s (j + 7) 0) ∙ ap (lacks b) (sym (eight_is s j h))
-
-module _ (b : ℕ) (s : List ℕ) (j : ℕ) (h : j < length s) where
-  pub lacks-here : get_or s j 0 ≡ b → lacks b (drop j s) ≡ false
-  lacks-here e = rw (drop-cons s j 0 h) (lacks-with b _ _ true (eq-eqb (get_or s j 0) b e))
-
-  pub lacks-on : (get_or s j 0 ≡ b → ⊥) → lacks b (drop j s) ≡ lacks b (drop (j + 1) s)
-  lacks-on n = rw (add-one j, drop-cons s j 0 h) (lacks-with b _ _ false (ne_eqb (get_or s j 0) b n))
 
 pub lacks-append : (xs ys : List ℕ) → lacks 10 xs ≡ true → lacks 10 ys ≡ true → lacks 10 (xs ++ ys) ≡ true
 unfolding lacks

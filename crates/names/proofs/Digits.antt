@@ -22,9 +22,6 @@ module _ (f : ℕ → Bool) (s : List ℕ) (i : ℕ) where
   pub all-stop : i < length s → f (get_or s i 0) ≡ false → all f (drop i s) ≡ false
   all-stop h e = rw (drop-cons s i 0 h, e)
 
-  pub all-on : i < length s → f (get_or s i 0) ≡ true → all f (drop i s) ≡ all f (drop (i + 1) s)
-  all-on h e = rw (add-one i, drop-cons s i 0 h, e)
-
   pub all_end : length s ≤ i → all f (drop i s) ≡ true
   all_end h = rw (drop_of_length-le s h)
 

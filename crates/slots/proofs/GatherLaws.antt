@@ -1,5 +1,5 @@
 -- Laws of the numbers of a text. Assumes nothing.
-use Rattle.std.proofs.Common.{◌≡◌, ℕ, ◌+◌, ◌-◌, ◌*◌, ◌%◌, ◌^◌, ◌<◌, ◌≤◌, min, max, Bool, true, false, cond, ◌&&◌, ◌||◌, ltb, List, [], ◌∷◌, length, get_or, drop, sym, refl, ap, ◌∙◌, add-one, arith, length-drop, length-set, drop_of_length-le, get_or-drop, drop-cons, ltb-false, ltb-true, le-ltb, lt-ltb}
+use Rattle.std.proofs.Common.{◌≡◌, ℕ, ◌+◌, ◌%◌, ◌^◌, ◌<◌, ◌≤◌, min, max, Bool, true, false, cond, ◌&&◌, ◌||◌, ltb, List, [], ◌∷◌, length, get_or, drop, sym, refl, ap, ◌∙◌, add-one, arith, length-drop, length-set, drop_of_length-le, get_or-drop, drop-cons, ltb-false, ltb-true, le-ltb, lt-ltb}
 use Rattle.lines.proofs.Tests.{or-false, and-false, is-in, is_below, is-above}
 use Rattle.names.specs.Names.{is_digit}
 use Rattle.slots.specs.Inner.Slots.{spot, claimed}
@@ -93,13 +93,6 @@ module _ (t : List ℕ) (i m : ℕ) where
   long-end h = sym (ap (λ (b : Bool). ltb m 10 || b) (long-none h) ∙ or-false (ltb m 10))
 
 -- ---- entering numbers
-
-module _ (v b : ℕ) where
-  pub grow-on : v < 1000000000000000000 → grown v b ≡ v * 10 + (b - 48)
-  grow-on h = rw (lt-ltb v 1000000000000000000 h)
-
-  pub grow-not : 1000000000000000000 ≤ v → grown v b ≡ v
-  grow-not h = rw (le-ltb v 1000000000000000000 h)
 
 pub entered-length : (low v : ℕ) (own : List ℕ) → length (entered low v own) ≡ length own
 entered-length low v own = by (ltb v low)
