@@ -236,6 +236,10 @@ lacks-cons b x xs h = go (eqb x b) h
     go true h = no h
     go false h = (refl, h)
 
+pub lacks-with : (b x : ℕ) (xs : List ℕ) (t : Bool) → eqb x b ≡ t → lacks b (x ∷ xs) ≡ cond t false (lacks b xs)
+unfolding lacks
+lacks-with b x xs t e = rw e
+
 -- the first b is past bytes that stand before it
 pub up-skip : (b n : ℕ) (l : List ℕ) → n ≤ up_to b l → up_to b l ≡ n + up_to b (drop n l)
 unfolding up_to

@@ -86,6 +86,7 @@ pub fn count_word(s: &[u8], p: &[u8]) -> usize
 {
     let mut n = 0;
     let mut i = run_start(s, 0);
+    // Kept: the place moves to the next run.
     while i < s.len() {
         let e = run_end(s, i);
         n += one_if(lines::same(lines::cut(s, i, e), p));
@@ -100,6 +101,7 @@ pub fn count_phi(s: &[u8], phi: names::Phi) -> usize
 {
     let mut n = 0;
     let mut i = run_start(s, 0);
+    // Kept: the place moves to the next run.
     while i < s.len() {
         let e = run_end(s, i);
         n += one_if(names::is_phi_text(lines::cut(s, i, e), phi));
