@@ -7,58 +7,45 @@ mod against;
 mod left;
 mod tell;
 
-ghost use Rattle.std.specs.Prelude.{◌≡◌, length};
-
 use input::host::{Opened, Sent, Word};
 use input::{Got, host};
 use pruned::Judged;
 use std::fs::File;
 
 // Room for a text: one byte more than is taken, so that a longer text is seen.
-fn text_room() -> [u8; 16385]
-    ensures { 16385 ≡ length result }
-{
-    [0; 16385]
-}
+const TEXT: usize = 16385;
 
-// What a file is: of so many bytes, or none that came whole, which is said.
-#[derive(Clone, Copy)]
-enum Loaded {
-    Whole(usize),
-    Failed,
-}
-
-// Reads an open file of a name; says why where it did not come whole.
-fn read_named(rt: &HostRuntime, from: File, name: &[u8], text: &mut [u8]) -> Loaded {
+// Reads an open file of a name, and gives its length; says why where it did not come whole.
+fn read_named(rt: &HostRuntime, from: File, name: &[u8], text: &mut [u8]) -> Option<usize> {
     let mut from = from;
     match input::read_input(&mut from, text) {
-        Got::Whole(n) => Loaded::Whole(n),
+        Got::Whole(n) => Some(n),
         Got::Failed(why) => {
             tell::fail(rt, b"read ", name, why);
-            Loaded::Failed
+            None
         }
     }
 }
 
 // Reads the file of a name, likewise.
-fn load_named(rt: &HostRuntime, name: &[u8], text: &mut [u8]) -> Loaded {
+fn load_named(rt: &HostRuntime, name: &[u8], text: &mut [u8]) -> Option<usize> {
     match host::open(rt, name) {
         Opened::Is(from) => read_named(rt, from, name, text),
         Opened::Failed(why) => {
             tell::fail(rt, b"open ", name, why);
-            Loaded::Failed
+            None
         }
     }
 }
 
 // Reads the file that an argument names.
-fn load(rt: &HostRuntime, at: usize, text: &mut [u8]) -> Loaded {
+fn load(rt: &HostRuntime, at: usize, text: &mut [u8]) -> Option<usize> {
     let mut name = host::buffer();
     match host::take_arg(rt, at, &mut name) {
         Word::Is(n) => load_named(rt, lines::cut(&name, 0, n), text),
         Word::Failed(why) => {
             host::say_failed(rt, b"optcheck: cannot take the name of a file", why);
-            Loaded::Failed
+            None
         }
     }
 }
@@ -94,10 +81,10 @@ fn report(rt: &HostRuntime, raw: &[u8], other: &[u8]) {
 
 // Reads the pruned text and checks it against the raw one.
 fn check_against(rt: &HostRuntime, raw: &[u8]) {
-    let mut other = text_room();
+    let mut other = [0; TEXT];
     match load(rt, 2, &mut other) {
-        Loaded::Whole(n) => report(rt, raw, lines::cut(&other, 0, n)),
-        Loaded::Failed => {}
+        Some(n) => report(rt, raw, lines::cut(&other, 0, n)),
+        None => {}
     }
 }
 
@@ -110,9 +97,9 @@ fn main(rt: HostRuntime) {
         );
         return;
     }
-    let mut raw = text_room();
+    let mut raw = [0; TEXT];
     match load(rt, 1, &mut raw) {
-        Loaded::Whole(n) => check_against(rt, lines::cut(&raw, 0, n)),
-        Loaded::Failed => {}
+        Some(n) => check_against(rt, lines::cut(&raw, 0, n)),
+        None => {}
     }
 }

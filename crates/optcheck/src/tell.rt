@@ -1,7 +1,5 @@
 // What the program says on standard error: for a refusal its number, what it means and where, each on a line. A file's name stands behind
 // fixed words, so that no name makes one kind of message look like another.
-use crate::against::Found;
-use crate::left::Missing;
 use input::host;
 
 fn say(rt: &HostRuntime, text: &[u8]) {
@@ -19,25 +17,9 @@ pub fn fail(rt: &HostRuntime, verb: &[u8], name: &[u8], why: i32) {
     host::say_failed(rt, name, why);
 }
 
-// A place from 0 as it is counted from 1.
-pub fn from_one(n: usize) -> usize {
-    if n < usize::MAX { n + 1 } else { n }
-}
-
-// The place behind `n` lines; the end of the text where it has fewer.
-fn behind(text: &[u8], n: usize) -> usize {
-    let mut at = 0;
-    let mut rest = n;
-    while rest > 0 {
-        at = lines::after(text, lines::find_byte(text, at, 10));
-        rest -= 1;
-    }
-    at
-}
-
 // The number, from 1, of the line at a place.
 fn line_number(text: &[u8], at: usize) -> usize {
-    from_one(lines::count_byte(lines::cut(text, 0, at), 10))
+    lines::count_byte(lines::cut(text, 0, at), b'\n').saturating_add(1)
 }
 
 // Says the line of a text that stands at a place.
@@ -47,21 +29,21 @@ fn say_line(rt: &HostRuntime, which: &[u8], text: &[u8], at: usize) {
     say(rt, b" line ");
     say_number(rt, line_number(text, at));
     say(rt, b": ");
-    say(rt, lines::cut(text, at, lines::find_byte(text, at, 10)));
+    say(rt, lines::cut(text, at, lines::find_byte(text, at, b'\n')));
     say(rt, b"\n");
 }
 
 // Says which name is left out that has to stay, where there is one.
 fn say_left_out(rt: &HostRuntime, raw: &[u8], at: usize, p: &[u8]) {
     match crate::left::left_out(raw, at, p) {
-        Missing::Reg(q) => {
+        Some(q) => {
             say(rt, b"optcheck: r");
             host::say_number(rt, q.0);
             say(rt, b" is left out, and raw line ");
             say_number(rt, line_number(raw, crate::left::use_at(raw, at, q)));
             say(rt, b" uses it\n");
         }
-        Missing::None => {}
+        None => {}
     }
 }
 
@@ -78,7 +60,7 @@ fn say_against(rt: &HostRuntime, raw: &[u8], at: usize, p: &[u8]) {
 // Tells at which line the pruned listing goes astray: `place` lines of it can be had.
 fn explain_astray(rt: &HostRuntime, place: usize, raw: &[u8], other: &[u8]) {
     say(rt, b"the pruned listing cannot be had from the raw one\n");
-    let at = behind(other, place);
+    let at = lines::behind(other, 0, b'\n', place);
     if at < other.len() {
         say_line(rt, b"pruned", other, at);
     } else {
@@ -87,10 +69,10 @@ fn explain_astray(rt: &HostRuntime, place: usize, raw: &[u8], other: &[u8]) {
             b"optcheck: the pruned listing ends, and the raw one needs more\n",
         );
     }
-    let p = lines::cut(other, at, lines::find_byte(other, at, 10));
+    let p = lines::cut(other, at, lines::find_byte(other, at, b'\n'));
     match crate::against::raw_line(raw, lines::cut(other, 0, at), place) {
-        Found::At(i) => say_against(rt, raw, i, p),
-        Found::Nowhere => {}
+        Some(i) => say_against(rt, raw, i, p),
+        None => {}
     }
 }
 
@@ -106,7 +88,7 @@ fn explain_listing(rt: &HostRuntime, number: u8, place: usize) {
         5 => say(rt, b" has more than 1024 lines\n"),
         6 => {
             say(rt, b" has more than 64 opening brackets [ in line ");
-            say_number(rt, from_one(place));
+            say_number(rt, place.saturating_add(1));
             say(rt, b"\n");
         }
         _ => say(
