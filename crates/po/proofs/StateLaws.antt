@@ -17,15 +17,16 @@ use Rattle.lines.proofs.Counts.{part-short}
 use Rattle.lines.proofs.LfLaws.{parts_at, parts-at-end, rest_of}
 use Rattle.lines.proofs.Compare.{same-eq}
 use Rattle.po.specs.declared.Line.{Line}
-use Rattle.po.specs.declared.Strings.{Strings}
-use Rattle.po.specs.declared.Strings.TheVariants as strings
+use Rattle.po.specs.Answers.{Strings, read_text, by_read, read_answer, strings_number, read_after}
+use Rattle.po.specs.declared.StringsRefusal.{StringsRefusal}
+use Rattle.po.specs.declared.StringsRefusal.TheVariants as strings
+use Rattle.std.specs.declared.result.Result.TheVariants.{Ok, Err}
 use Rattle.lines.specs.Ascii.{ascii}
 use Rattle.po.specs.Found.{decoded, known, empty}
 use Rattle.text.specs.Utf8Form.{utf8_of}
 use Rattle.po.specs.Form.{id_word, str_word, type_line, escape, escaped, quoted, ref_line}
 use Rattle.po.specs.Name.{is_file_name}
 use Rattle.po.specs.Reader.{State, start, Read, bad, good, is_valid, colon, value_of, quoted_text, is_quoted_line, name_in, line_number, is_ref, is_id, awaited, read_on, read_go, read_of, packed, given}
-use Rattle.po.specs.Answers.{read_text, by_read, read_answer, strings_number}
 use Rattle.po.specs.Inner.ReadWalk.{is_reference, follows, next_of, after_reading, state_at, same_id, met, gives_one, gives, At, is_good, read_verdict}
 use Rattle.names.specs.Names.{read_number}
 use Rattle.po.specs.declared.Unit.{Unit}
@@ -565,7 +566,7 @@ module _ {file : List ℕ} {n : ℕ} {r : Line} (v : CheckInv file n r) where
         ∙ ap (λ (ps : List (List ℕ)). read_go ps r.number (state_at file r.number)) (sym (parts_at 10 file r.at r.end v.stands.inside v.stands.ends more))
         ∙ v.so_far
 
-    pub check-bad : awaited (state_at file r.number) (part r.at r.end file) ≡ false → strings.BadLine r.number ≡ read_verdict (read_of file)
+    pub check-bad : awaited (state_at file r.number) (part r.at r.end file) ≡ false → Err (strings.BadLine r.number) ≡ read_verdict (read_of file)
     check-bad e = ap (λ (b : Bool). read_verdict (cond b (read_go (parts_of 10 (drop (r.end + 1) file)) (suc r.number) (read_on (state_at file r.number) (part r.at r.end file))) (bad r.number))) (sym e) ∙ ap (λ (x : Read). read_verdict x) step_by
 
     module _ (good-line : awaited (state_at file r.number) (part r.at r.end file) ≡ true) (m : ℕ) (l : List ℕ) (is-l : l ≡ part r.at r.end file) (e : m ≡ length (gives_one r.awaits l)) where
@@ -606,7 +607,7 @@ module _ {file : List ℕ} {n : ℕ} {r : Line} (v : CheckInv file n r) where
     unfolding read_go
     ends_by = ap (λ (ps : List (List ℕ)). read_go ps r.number (state_at file r.number)) (sym (parts-at-end 10 file r.at r.end v.stands.inside v.stands.ends last)) ∙ v.so_far
 
-    pub end-awaits : (r.awaits ≡ 3 → ⊥) → strings.BadLine r.number ≡ read_verdict (read_of file)
+    pub end-awaits : (r.awaits ≡ 3 → ⊥) → Err (strings.BadLine r.number) ≡ read_verdict (read_of file)
     end-awaits z =
         ap (λ (b : Bool). read_verdict (cond (b && empty (part r.at r.end file)) (good (state_at file r.number).ids (state_at file r.number).strs) (bad r.number))) (sym (ne_eqb (state_at file r.number).awaits 3 (λ x. z (v.stands.awaits ∙ x))))
         ∙ ap (λ (x : Read). read_verdict x) ends_by
@@ -614,7 +615,7 @@ module _ {file : List ℕ} {n : ℕ} {r : Line} (v : CheckInv file n r) where
     rest-length : length (part r.at r.end file) ≡ length file - r.at
     rest-length = let z = v.stands.ends in let t = length-take (r.end - r.at) (drop r.at file) in let d = length-drop r.at file in omega arith
 
-    pub end_rest : r.at < length file → strings.BadLine r.number ≡ read_verdict (read_of file)
+    pub end_rest : r.at < length file → Err (strings.BadLine r.number) ≡ read_verdict (read_of file)
     end_rest h =
         let k = rest-length in
         let x : List ℕ = part r.at r.end file in
@@ -631,7 +632,7 @@ module _ {file : List ℕ} {n : ℕ} {r : Line} (v : CheckInv file n r) where
         (sym (ap (λ (b : Bool). b && empty x) (eq-eqb (state_at file r.number).awaits 3 (sym v.stands.awaits ∙ e)) ∙ empty-yes x none))
         ∙ ends_by
 
-    pub end-good : r.awaits ≡ 3 → length file ≤ r.at → strings.Done n ≡ read_verdict (read_of file)
+    pub end-good : r.awaits ≡ 3 → length file ≤ r.at → Ok n ≡ read_verdict (read_of file)
     end-good e h =
         let d : List (List ℕ) = v.stands.done in
         let x : List ℕ = part r.at r.end file in
@@ -642,52 +643,48 @@ module _ {file : List ℕ} {n : ℕ} {r : Line} (v : CheckInv file n r) where
         ap (gives 0) all ∙ gives-snoc d start x ∙ ap (λ (k : ℕ). gives 0 d ++ gives_one k x) w ∙ append-nil (gives 0 d) in
         let t : read_text (read_of file) ≡ gives 0 d = file-gives file (ap (λ (y : Read). is_good y) (sym rd)) ∙ g in
         let o : n ≡ length (gives 0 d) = v.many ∙ ap (λ (ls : List (List ℕ)). length (gives 0 ls)) (above v.stands) in
-        ap strings.Done (o ∙ ap length (sym t) ∙ ap (λ (y : Read). length (read_text y)) (sym rd)) ∙ ap (λ (y : Read). read_verdict y) rd
+        ap Ok (o ∙ ap length (sym t) ∙ ap (λ (y : Read). length (read_text y)) (sym rd)) ∙ ap (λ (y : Read). read_verdict y) rd
 
 -- ---- the answer
 
+pub kept-by : (e : StringsRefusal) (text d : List ℕ) → d ≡ read_after (Err e) text d
+kept-by (strings.BadLine n) text d = refl
+kept-by (strings.Short n) text d = refl
+
 length_of : Strings → ℕ
-length_of (strings.Done n) = n
-length_of (strings.BadLine n) = n
-length_of (strings.Short n) = n
+length_of (Ok n) = n
+length_of (Err (strings.BadLine n)) = n
+length_of (Err (strings.Short n)) = n
 
 module _ (file : List ℕ) (room : ℕ) where
-  done-is : (rd : Read) (n : ℕ) → strings.Done n ≡ read_verdict rd → (is_good rd ≡ true) × (n ≡ length (read_text rd))
+  done-is : (rd : Read) (n : ℕ) → Ok n ≡ read_verdict rd → (is_good rd ≡ true) × (n ≡ length (read_text rd))
   unfolding strings_number length_of
   done-is (bad m) n e = let z = ap strings_number e in absurd (omega arith)
   done-is (good ids strs) n e = (refl, ap length_of e)
 
-  by-done : (rd : Read) (n : ℕ) → strings.Done n ≡ read_verdict rd → by_read rd room ≡ cond (ltb room n) (strings.Short n) (strings.Done n)
+  by-done : (rd : Read) (n : ℕ) → Ok n ≡ read_verdict rd → by_read rd room ≡ cond (ltb room n) (Err (strings.Short n)) (Ok n)
   unfolding strings_number length_of
   by-done (bad m) n e = let z = ap strings_number e in absurd (omega arith)
-  by-done (good ids strs) n e = ap (λ (k : ℕ). cond (ltb room k) (strings.Short k) (strings.Done k)) (sym (ap length_of e))
+  by-done (good ids strs) n e = ap (λ (k : ℕ). cond (ltb room k) (Err (strings.Short k)) (Ok k)) (sym (ap length_of e))
 
-  by-bad : (rd : Read) (n : ℕ) → strings.BadLine n ≡ read_verdict rd → strings.BadLine n ≡ by_read rd room
+  by-err : (rd : Read) (e : StringsRefusal) → Err e ≡ read_verdict rd → Err e ≡ by_read rd room
   unfolding strings_number
-  by-bad (bad m) n e = e
-  by-bad (good ids strs) n e = let z = ap strings_number e in absurd (omega arith)
+  by-err (bad m) e h = h
+  by-err (good ids strs) (strings.BadLine n) h = let z = ap strings_number h in absurd (omega arith)
+  by-err (good ids strs) (strings.Short n) h = let z = ap strings_number h in absurd (omega arith)
 
-  by-short : (rd : Read) (n : ℕ) → strings.Short n ≡ read_verdict rd → strings.Short n ≡ by_read rd room
-  unfolding strings_number
-  by-short (bad m) n e = let z = ap strings_number e in absurd (omega arith)
-  by-short (good ids strs) n e = let z = ap strings_number e in absurd (omega arith)
-
-  pub answer-bad : (n : ℕ) → strings.BadLine n ≡ read_verdict (read_of file) → strings.BadLine n ≡ read_answer file room
+  pub answer-err : (e : StringsRefusal) → Err e ≡ read_verdict (read_of file) → Err e ≡ read_answer file room
   unfolding read_answer
-  answer-bad n e = by-bad (read_of file) n e
+  answer-err e h = by-err (read_of file) e h
 
-  pub answer-none : (n : ℕ) → strings.Short n ≡ read_verdict (read_of file) → strings.Short n ≡ read_answer file room
-  unfolding read_answer
-  answer-none n e = by-short (read_of file) n e
-
-  module _ (n : ℕ) (e : strings.Done n ≡ read_verdict (read_of file)) where
-    pub answer-short : room < n → strings.Short n ≡ read_answer file room
+  module _ (n : ℕ) (e : Ok n ≡ read_verdict (read_of file)) where
+    pub answer-short : room < n → Err (strings.Short n) ≡ read_answer file room
     unfolding read_answer
-    answer-short h = sym (by-done (read_of file) n e ∙ ap (λ (b : Bool). cond b (strings.Short n) (strings.Done n)) (lt-ltb room n h))
+    answer-short h = sym (by-done (read_of file) n e ∙ ap (λ (b : Bool). cond b (Err (strings.Short n)) (Ok n)) (lt-ltb room n h))
 
-    pub answer-done : n ≤ room → strings.Done n ≡ read_answer file room
+    pub answer-done : n ≤ room → Ok n ≡ read_answer file room
     unfolding read_answer
-    answer-done h = sym (by-done (read_of file) n e ∙ ap (λ (b : Bool). cond b (strings.Short n) (strings.Done n)) (le-ltb room n h))
+    answer-done h = sym (by-done (read_of file) n e ∙ ap (λ (b : Bool). cond b (Err (strings.Short n)) (Ok n)) (le-ltb room n h))
 
     pub text-is : gives 0 (parts_of 10 file) ≡ read_text (read_of file)
     text-is = sym (file-gives file (done-is (read_of file) n e).0)

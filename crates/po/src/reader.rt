@@ -11,7 +11,7 @@ ghost use Rattle.po.specs.Reader.{is_valid, is_quoted_line, quoted_text, colon, 
 ghost use Rattle.po.specs.Inner.Index.{Tells};
 ghost use Rattle.po.specs.Inner.ReadWalk.{formed, is_reference, follows, next_of, state_at, gives_one, gives, same_id, At, read_verdict};
 
-use crate::{Line, Seek, Strings, file_name, index, same_text, unit_at};
+use crate::{Line, Seek, Strings, StringsRefusal, file_name, index, same_text, unit_at};
 
 const QUOTE: u8 = 34;
 
@@ -365,18 +365,18 @@ pub fn check_file(file: &[u8], own: &mut [usize]) -> Strings
     let mut n = 0;
     while r.end < file.len() {
         if !is_awaited(file, r, own) {
-            return Strings::BadLine(r.number);
+            return Err(StringsRefusal::BadLine(r.number));
         }
         n += given_len(r.awaits, lines::cut(file, r.at, r.end));
         r = line_after(file, r);
     }
     if r.awaits != 3 {
-        return Strings::BadLine(r.number);
+        return Err(StringsRefusal::BadLine(r.number));
     }
     if r.at < file.len() {
-        return Strings::BadLine(r.number);
+        return Err(StringsRefusal::BadLine(r.number));
     }
-    Strings::Done(n)
+    Ok(n)
 }
 
 // Writes a number in 8 bytes, low byte first, and returns the place after it.

@@ -2,59 +2,102 @@
 #![tactic(auto)]
 
 ghost use Rattle.std.specs.Prelude.{◌≡◌, length, replicate};
+ghost use Rattle.std.specs.declared.result.Result.TheVariants.{Err};
 ghost use Rattle.po.specs.Reader.{read_of};
 ghost use Rattle.po.specs.Answers.{po_text, po_answer, po_number, po_after, index_after, read_text, read_answer, strings_number, read_after};
 ghost use Rattle.pocapi.specs.Called.{po_size, po_place, strings_size, strings_place};
 
-use po::{Po, Strings};
+use po::{Po, PoRefusal, Strings, StringsRefusal};
 
 // The length that a writer's answer stores.
+#[tactic(auto, unfolding(crate::specs::Called::po_size))]
 fn size_of(answer: Po) -> usize
     ensures { result ≡ po_size answer }
 {
     match answer {
-        Po::Done(n) => n,
-        Po::BadName(_) => 0,
-        Po::NotUtf8(_) => 0,
-        Po::OtherEscape(_) => 0,
-        Po::Open(_) => 0,
-        Po::Short(_) => 0,
+        Ok(n) => n,
+        Err(e) => no_size(e),
+    }
+}
+
+// A refusal of the writer stores no length.
+#[tactic(auto, unfolding(crate::specs::Called::po_size))]
+fn no_size(e: PoRefusal) -> usize
+    ensures { result ≡ po_size (Err e) }
+{
+    match e {
+        PoRefusal::BadName(_)
+        | PoRefusal::NotUtf8(_)
+        | PoRefusal::OtherEscape(_)
+        | PoRefusal::Open(_)
+        | PoRefusal::Short(_) => 0,
     }
 }
 
 // The place that a writer's answer stores.
+#[tactic(auto, unfolding(crate::specs::Called::po_place))]
 fn place_of(answer: Po) -> usize
     ensures { result ≡ po_place answer }
 {
     match answer {
-        Po::Done(_) => 0,
-        Po::BadName(i) => i,
-        Po::NotUtf8(i) => i,
-        Po::OtherEscape(i) => i,
-        Po::Open(i) => i,
-        Po::Short(n) => n,
+        Ok(_) => 0,
+        Err(e) => refused_at(e),
+    }
+}
+
+// The place that a refusal of the writer stores.
+#[tactic(auto, unfolding(crate::specs::Called::po_place))]
+fn refused_at(e: PoRefusal) -> usize
+    ensures { result ≡ po_place (Err e) }
+{
+    match e {
+        PoRefusal::BadName(i)
+        | PoRefusal::NotUtf8(i)
+        | PoRefusal::OtherEscape(i)
+        | PoRefusal::Open(i)
+        | PoRefusal::Short(i) => i,
     }
 }
 
 // The length that a reader's answer stores.
+#[tactic(auto, unfolding(crate::specs::Called::strings_size))]
 fn read_size_of(answer: Strings) -> usize
     ensures { result ≡ strings_size answer }
 {
     match answer {
-        Strings::Done(n) => n,
-        Strings::BadLine(_) => 0,
-        Strings::Short(_) => 0,
+        Ok(n) => n,
+        Err(e) => no_read_size(e),
+    }
+}
+
+// A refusal of the reader stores no length.
+#[tactic(auto, unfolding(crate::specs::Called::strings_size))]
+fn no_read_size(e: StringsRefusal) -> usize
+    ensures { result ≡ strings_size (Err e) }
+{
+    match e {
+        StringsRefusal::BadLine(_) | StringsRefusal::Short(_) => 0,
     }
 }
 
 // The place that a reader's answer stores.
+#[tactic(auto, unfolding(crate::specs::Called::strings_place))]
 fn read_place_of(answer: Strings) -> usize
     ensures { result ≡ strings_place answer }
 {
     match answer {
-        Strings::Done(_) => 0,
-        Strings::BadLine(n) => n,
-        Strings::Short(n) => n,
+        Ok(_) => 0,
+        Err(e) => read_refused_at(e),
+    }
+}
+
+// The place that a refusal of the reader stores.
+#[tactic(auto, unfolding(crate::specs::Called::strings_place))]
+fn read_refused_at(e: StringsRefusal) -> usize
+    ensures { result ≡ strings_place (Err e) }
+{
+    match e {
+        StringsRefusal::BadLine(n) | StringsRefusal::Short(n) => n,
     }
 }
 

@@ -13,14 +13,14 @@ use Rattle.lines.proofs.Tests.{no, and_both, or-true}
 use Rattle.lines.proofs.Compare.{same_refl}
 use Rattle.text.specs.Utf8Form.{utf8_of}
 use Rattle.std.specs.declared.result.Result.TheVariants.{Ok, Err}
-use Rattle.po.specs.declared.Po.TheVariants as po
-use Rattle.po.specs.declared.Strings.{Strings}
-use Rattle.po.specs.declared.Strings.TheVariants as strings
+use Rattle.po.specs.declared.PoRefusal.TheVariants as po
+use Rattle.po.specs.Answers.{Strings, first_flaw, po_checked, po_text, po_answer, by_read, read_answer}
+use Rattle.po.specs.declared.StringsRefusal.TheVariants as strings
+use Rattle.std.specs.declared.option.Option.TheVariants.{Some, None}
 use Rattle.po.specs.declared.Flaw.TheVariants as flaw
 use Rattle.po.specs.Found.{Entry, empty, literals}
 use Rattle.po.specs.Form.{id_word, str_word, escaped, quoted, ref_line, head_lines, entry_lines}
 use Rattle.po.specs.Name.{is_file_name}
-use Rattle.po.specs.Answers.{first_flaw, po_checked, po_text, po_answer, by_read, read_answer}
 use Rattle.po.specs.Reader.{State, Read, bad, good, start, read_go, read_of, given}
 use Rattle.potrip.specs.Written.{Message, entries_of, Translated, no-string, string-on, message_lines, ids_on, strs_on, Written, Taken}
 use Rattle.potrip.proofs.Cut.{parts-unlines, ref-lacks, quoted-lacks}
@@ -96,7 +96,7 @@ strings-of : {m : ℕ} {ids : List (List ℕ)} {rs : List Message} → Sounds m 
 strings-of no_row = no-string
 strings-of (row_on s t) = string-on (utf-valid s.string) (strings-of t)
 
-answer-of : (name t : List ℕ) → is_file_name name ≡ true → utf8_of t ≡ Ok tt → first_flaw (literals t) ≡ flaw.None → po_answer name t (length (po_text name t)) ≡ po.Done (length (po_text name t))
+answer-of : (name t : List ℕ) → is_file_name name ≡ true → utf8_of t ≡ Ok tt → first_flaw (literals t) ≡ None → po_answer name t (length (po_text name t)) ≡ Ok (length (po_text name t))
 unfolding po_answer po_checked
 answer-of name t i v f =
     let z : ltb (length (po_text name t)) (length (po_text name t)) ≡ false = le-ltb (length (po_text name t)) (length (po_text name t)) (omega arith) in
@@ -121,21 +121,21 @@ read-is-written file ids strs h =
 -- ---- by the words of the two contracts: `read_po` refuses no line of a file exactly where it is written so
 
 abbrev is_bad : Strings → Bool
-is_bad (strings.Done n) = false
-is_bad (strings.BadLine n) = true
-is_bad (strings.Short n) = false
+is_bad (Ok n) = false
+is_bad (Err (strings.BadLine n)) = true
+is_bad (Err (strings.Short n)) = false
 
 pub taken-exactly : (file : List ℕ) (room : ℕ) → (Taken file room → Written file) × (Written file → Taken file room)
 unfolding read_answer
 taken-exactly file room = (λ t. to (read_of file) refl t, λ w n e. from n (written_read file w) e)
   where
-    to : (r : Read) → read_of file ≡ r → ((n : ℕ) → by_read (read_of file) room ≡ strings.BadLine n → ⊥) → Written file
+    to : (r : Read) → read_of file ≡ r → ((n : ℕ) → by_read (read_of file) room ≡ Err (strings.BadLine n) → ⊥) → Written file
     to (bad n) q t = absurd (t n (ap (λ (r : Read). by_read r room) q))
     to (good ids strs) q t = read-is-written file ids strs q
 
-    pick : (b : Bool) (k : ℕ) → is_bad (cond b (strings.Short k) (strings.Done k)) ≡ false
+    pick : (b : Bool) (k : ℕ) → is_bad (cond b (Err (strings.Short k)) (Ok k)) ≡ false
     pick true k = refl
     pick false k = refl
 
-    from : {ids strs : List (List ℕ)} (n : ℕ) → read_of file ≡ good ids strs → by_read (read_of file) room ≡ strings.BadLine n → ⊥
+    from : {ids strs : List (List ℕ)} (n : ℕ) → read_of file ≡ good ids strs → by_read (read_of file) room ≡ Err (strings.BadLine n) → ⊥
     from {ids} {strs} n q e = no (sym (pick (ltb room (length (given ids strs []))) (length (given ids strs []))) ∙ ap is_bad (ap (λ (r : Read). by_read r room) (sym q) ∙ e))

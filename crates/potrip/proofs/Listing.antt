@@ -14,7 +14,9 @@ use Rattle.lines.proofs.LfLaws.{lines-unlines}
 use Rattle.lexical.specs.Lex.{quote_len, token_of}
 use Rattle.text.specs.Utf8Form.{utf8_of}
 use Rattle.std.specs.declared.result.Result.TheVariants.{Ok, Err}
+use Rattle.std.specs.declared.option.Option.{Option}
 use Rattle.po.specs.declared.Flaw.{Flaw}
+use Rattle.std.specs.declared.option.Option.TheVariants.{Some, None}
 use Rattle.po.specs.declared.Flaw.TheVariants as flaw
 use Rattle.po.specs.Found.{lit_closed, odds, Literal, literals_go, literals_of, literals, literal_text, Entry, known, left_out, firsts, entries}
 use Rattle.po.specs.Form.{escaped}
@@ -100,7 +102,7 @@ odds-escaped (b ∷ bs) l i = go (eqb b 10) (eqb b 9) (eqb b 34) refl (eqb b 92)
     go false false false f true g two one = two
     go false false false f false g two one = odds-other b (escaped bs ++ 34 ∷ l) 34 i g f ∙ one
 
-lit-fine : (x l : List ℕ) (place : ℕ) → flaw_in (escaped x ++ 34 ∷ l) 34 place ≡ flaw.None
+lit-fine : (x l : List ℕ) (place : ℕ) → flaw_in (escaped x ++ 34 ∷ l) 34 place ≡ None
 unfolding flaw_in
 lit-fine x l place = rw (closed-escaped x l, odds-escaped x l (suc place)) refl
 
@@ -108,7 +110,7 @@ lit-fine x l place = rw (closed-escaped x l, odds-escaped x l (suc place)) refl
 
 pub data Lits : List Entry → List Literal → Type 0 where
   no_lit : Lits [] []
-  lit-on : (e : Entry) (s : Literal) {es : List Entry} {ss : List Literal} → s.line ≡ e.line → literal_text s ≡ e.text → flaw_in s.rest s.quote s.place ≡ flaw.None → Lits es ss → Lits (e ∷ es) (s ∷ ss)
+  lit-on : (e : Entry) (s : Literal) {es : List Entry} {ss : List Literal} → s.line ≡ e.line → literal_text s ≡ e.text → flaw_in s.rest s.quote s.place ≡ None → Lits es ss → Lits (e ∷ es) (s ∷ ss)
 
 -- a text as a literal, with what follows it on its line
 abbrev lit_on : List ℕ → List ℕ → List ℕ
@@ -290,10 +292,10 @@ lits-firsts above ids (lit-on e s {es} {ss} p q r w) (fresh z n f) k =
     on : (x : List ℕ) → known (e.text ∷ ids) x ≡ false → known (above ++ literal_text s ∷ []) x ≡ false
     on x h = ap (λ (t : List ℕ). known (above ++ t ∷ []) x) q ∙ known-last above e.text x ∙ or-less (same e.text x) (known ids x) (known above x) h (k x)
 
-lits-fine : {es : List Entry} {ss : List Literal} → Lits es ss → first_flaw ss ≡ flaw.None
+lits-fine : {es : List Entry} {ss : List Literal} → Lits es ss → first_flaw ss ≡ None
 unfolding first_flaw
 lits-fine no_lit = refl
-lits-fine (lit-on e s {es} {ss} p q r w) = ap (λ (f : Flaw). or_else f (first_flaw ss)) r ∙ lits-fine w
+lits-fine (lit-on e s {es} {ss} p q r w) = ap (λ (f : Option Flaw). or_else f (first_flaw ss)) r ∙ lits-fine w
 
 listing-lits : {b : ℕ} (es : List Entry) → Climbs b 1 es → Lits es (literals (listing_of es))
 unfolding literals literals_of
@@ -304,5 +306,5 @@ pub listing-entries : {b : ℕ} (es : List Entry) → Climbs b 1 es → Fresh []
 unfolding entries
 listing-entries es c f = lits-firsts [] [] (listing-lits es c) f (λ x h. h)
 
-pub listing-fine : {b : ℕ} (es : List Entry) → Climbs b 1 es → first_flaw (literals (listing_of es)) ≡ flaw.None
+pub listing-fine : {b : ℕ} (es : List Entry) → Climbs b 1 es → first_flaw (literals (listing_of es)) ≡ None
 listing-fine es c = lits-fine (listing-lits es c)

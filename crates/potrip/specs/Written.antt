@@ -3,8 +3,8 @@ use Rattle.std.specs.Prelude.{ℕ, ◌^◌, ◌<◌, ◌≡◌, List, [], ◌∷
 use Rattle.lines.specs.Lf.{lines_of, unlines}
 use Rattle.text.specs.Utf8Form.{utf8_of}
 use Rattle.std.specs.declared.result.Result.TheVariants.{Ok, Err}
-use Rattle.po.specs.declared.Po.TheVariants as po
-use Rattle.po.specs.declared.Strings.TheVariants as strings
+use Rattle.po.specs.declared.PoRefusal.TheVariants as po
+use Rattle.po.specs.declared.StringsRefusal.TheVariants as strings
 use Rattle.po.specs.Found.{Entry, entries}
 use Rattle.po.specs.Form.{head_lines, entry_lines}
 use Rattle.po.specs.Answers.{po_text, po_answer, read_answer}
@@ -42,7 +42,7 @@ strs_on (r ∷ rs) strs = strs_on rs (r.str ∷ strs)
 pub record Written (file : List ℕ) : Type 0 where
   pub name : List ℕ
   pub listing : List ℕ
-  pub done : po_answer name listing (length (po_text name listing)) ≡ po.Done (length (po_text name listing))
+  pub done : po_answer name listing (length (po_text name listing)) ≡ Ok (length (po_text name listing))
   pub few : length (lines_of listing) < 2 ^ 64
   pub rows : List Message
   pub same_entries : entries_of rows ≡ entries listing
@@ -51,4 +51,4 @@ pub record Written (file : List ℕ) : Type 0 where
 
 -- `read_po` refuses no line of a file
 abbrev pub Taken : List ℕ → ℕ → Type 0
-Taken file room = (n : ℕ) → read_answer file room ≡ strings.BadLine n → ⊥
+Taken file room = (n : ℕ) → read_answer file room ≡ Err (strings.BadLine n) → ⊥

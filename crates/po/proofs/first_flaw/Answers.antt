@@ -2,6 +2,7 @@ use Prim.Native.Nat.{◌+◌}
 use native.Mathlib.Omega.{arith}
 use mathlib.Core.Path.{sym, ap, ◌∙◌}
 use lib.ListN.{length}
+use Rattle.std.specs.declared.option.Option.{Option}
 use Rattle.po.specs.declared.Flaw.{Flaw}
 use Rattle.po.specs.Answers.{first_flaw, or_else}
 use Rattle.po.specs.Inner.Walk.{spots_from}
@@ -31,13 +32,10 @@ pub loop-c-smaller : goal.loop-c-smaller
 loop-c-smaller c = omega (arith, c.past_lit-next.ensures.at_lt_at, c.loop-c-test.true)
 
 pub loop-c-preserved : goal.loop-c-preserved
-loop-c-preserved c = let l = c.loop-c in let a = c.args in let p = c.past_lit-next in let f = c.lit_flaw in (p.ensures.ready_2, (ap (λ (g : Flaw). or_else g (first_flaw (spots_from a.t.now p.result))) (sym c.in-None.is) ∙ sym (flaw-first a.t.now l.c p.result p.ensures.c_value f.result _ _ f.ensures c.lit_rest.ensures c.byte_at.ensures)) ∙ l.invariant.1)
+loop-c-preserved c = let l = c.loop-c in let a = c.args in let p = c.past_lit-next in let f = c.lit_flaw in (p.ensures.ready_2, (ap (λ (g : Option Flaw). or_else g (first_flaw (spots_from a.t.now p.result))) (sym c.in-None.is) ∙ sym (flaw-first a.t.now l.c p.result p.ensures.c_value f.result _ _ f.ensures c.lit_rest.ensures c.byte_at.ensures)) ∙ l.invariant.1)
 
-pub returns-in-Escape : goal.returns-in-Escape
-returns-in-Escape c = let l = c.loop-c in let a = c.args in let p = c.past_lit-next in let f = c.lit_flaw in ap (λ (g : Flaw). or_else g (first_flaw (spots_from a.t.now p.result))) (sym c.in-Escape.is) ∙ sym (flaw-first a.t.now l.c p.result p.ensures.c_value f.result _ _ f.ensures c.lit_rest.ensures c.byte_at.ensures) ∙ l.invariant.1
-
-pub returns-in-Unclosed : goal.returns-in-Unclosed
-returns-in-Unclosed c = let l = c.loop-c in let a = c.args in let p = c.past_lit-next in let f = c.lit_flaw in ap (λ (g : Flaw). or_else g (first_flaw (spots_from a.t.now p.result))) (sym c.in-Unclosed.is) ∙ sym (flaw-first a.t.now l.c p.result p.ensures.c_value f.result _ _ f.ensures c.lit_rest.ensures c.byte_at.ensures) ∙ l.invariant.1
+pub returns-in-Some : goal.returns-in-Some
+returns-in-Some c = let l = c.loop-c in let a = c.args in let p = c.past_lit-next in let f = c.lit_flaw in ap (λ (g : Option Flaw). or_else g (first_flaw (spots_from a.t.now p.result))) (sym c.in-Some.is) ∙ sym (flaw-first a.t.now l.c p.result p.ensures.c_value f.result _ _ f.ensures c.lit_rest.ensures c.byte_at.ensures) ∙ l.invariant.1
 
 pub returns : goal.returns
 returns c = let l = c.loop-c in sym (flaw-end c.args.t.now l.c l.invariant.0 c.loop-c-test.false) ∙ l.invariant.1

@@ -4,8 +4,9 @@ use Prim.Native.Char.{code}
 use Rattle.lines.specs.Ascii.{ascii}
 use Rattle.lines.specs.Lf.{part, same, up_to, parts_of}
 use Rattle.po.specs.declared.Line.{Line}
-use Rattle.po.specs.declared.Strings.{Strings}
-use Rattle.po.specs.declared.Strings.TheVariants as strings
+use Rattle.po.specs.Answers.{Strings}
+use Rattle.po.specs.declared.StringsRefusal.TheVariants as strings
+use Rattle.std.specs.declared.result.Result.TheVariants.{Ok, Err}
 use Rattle.po.specs.Found.{decoded, empty}
 use Rattle.po.specs.Form.{id_word, str_word, ref_line, escaped}
 use Rattle.po.specs.Name.{is_file_name}
@@ -79,5 +80,5 @@ is_good (good ids strs) = true
 
 -- how much is given, or the line
 abbrev pub read_verdict : Read → Strings
-read_verdict (bad n) = strings.BadLine n
-read_verdict (good ids strs) = strings.Done (length (given ids strs []))
+read_verdict (bad n) = Err (strings.BadLine n)
+read_verdict (good ids strs) = Ok (length (given ids strs []))

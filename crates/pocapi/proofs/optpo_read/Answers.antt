@@ -1,7 +1,6 @@
 use lib.ListN.{length, replicate}
-use Rattle.po.specs.declared.Strings.{Strings}
+use Rattle.po.specs.Answers.{Strings, read_text, read_after, strings_number}
 use Rattle.po.specs.Reader.{read_of}
-use Rattle.po.specs.Answers.{read_text, read_after, strings_number}
 use Rattle.pocapi.specs.Called.{strings_size, strings_place}
 use Rattle.pocapi.proofs.Answered.{answered}
 use Rattle.pocapi.proofs.optpo_read.Goals as goal

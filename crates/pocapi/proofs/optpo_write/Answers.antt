@@ -1,5 +1,4 @@
-use Rattle.po.specs.declared.Po.{Po}
-use Rattle.po.specs.Answers.{po_text, po_number, po_after, index_after}
+use Rattle.po.specs.Answers.{Po, po_text, po_number, po_after, index_after}
 use Rattle.pocapi.specs.Called.{po_size, po_place}
 use Rattle.pocapi.proofs.Answered.{answered}
 use Rattle.pocapi.proofs.optpo_write.Goals as goal
