@@ -67,3 +67,14 @@ pub fn read_input<R: Read>(from: &mut R, text: &mut [u8]) -> Got {
     }
     Got::Whole(n)
 }
+
+// The place behind `n` bytes `b`, from a place on; the end where there are fewer.
+pub fn behind(s: &[u8], from: usize, b: u8, n: usize) -> usize
+    ensures { from ≤ length s.now → result ≤ length s.now }
+{
+    let mut at = from;
+    for _ in 0..n {
+        at = lines::after(s, lines::find_byte(s, at, b));
+    }
+    at
+}

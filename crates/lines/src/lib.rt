@@ -118,17 +118,6 @@ pub fn find_byte(s: &[u8], i: usize, b: u8) -> usize
     find_one(s, j, b)
 }
 
-// The place behind `n` bytes `b`, from a place on; the end where there are fewer.
-pub fn behind(s: &[u8], from: usize, b: u8, n: usize) -> usize
-    ensures { from ≤ length s.now → result ≤ length s.now }
-{
-    let mut at = from;
-    for _ in 0..n {
-        at = after(s, find_byte(s, at, b));
-    }
-    at
-}
-
 // The place after the last LF before `e`, or the front, byte by byte.
 fn start_one(s: &[u8], e: usize) -> usize
     requires { e ≤ length s.now }

@@ -60,7 +60,7 @@ fn say_against(rt: &HostRuntime, raw: &[u8], at: usize, p: &[u8]) {
 // Tells at which line the pruned listing goes astray: `place` lines of it can be had.
 fn explain_astray(rt: &HostRuntime, place: usize, raw: &[u8], other: &[u8]) {
     say(rt, b"the pruned listing cannot be had from the raw one\n");
-    let at = lines::behind(other, 0, b'\n', place);
+    let at = input::behind(other, 0, b'\n', place);
     if at < other.len() {
         say_line(rt, b"pruned", other, at);
     } else {
