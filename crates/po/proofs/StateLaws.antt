@@ -13,6 +13,7 @@ use Rattle.lines.specs.Lf.{part, same, up_to, parts_of, cut_on, low_bytes}
 use Rattle.lines.specs.Inner.Out.{Wrote, put_at}
 use Rattle.lines.proofs.OutLaws.{Writing, writing_start, writing-as, writing-room, writing-put, writing-end}
 use Rattle.lines.proofs.Tests.{no, or-false, and_left, and-false}
+use Rattle.std.proofs.Math.Nat.{div-div-eq-div-mul}
 use Rattle.lines.proofs.Counts.{part-short}
 use Rattle.lines.proofs.LfLaws.{parts_at, parts-at-end, rest_of}
 use Rattle.lines.proofs.Compare.{same-eq}
@@ -359,6 +360,11 @@ pub low-length : (k n : ℕ) → length (low_bytes k n) ≡ k
 unfolding low_bytes
 low-length zero n = refl
 low-length (suc k) n = ap suc (low-length k (n / 256))
+
+-- the eight bytes of a number
+pub low_eight : (n : ℕ) → n % 256 ∷ n / 256 % 256 ∷ n / 65536 % 256 ∷ n / 16777216 % 256 ∷ n / 4294967296 % 256 ∷ n / 1099511627776 % 256 ∷ n / 281474976710656 % 256 ∷ n / 72057594037927936 % 256 ∷ [] ≡ low_bytes 8 n
+unfolding low_bytes
+low_eight n = rw (div-div-eq-div-mul n 256 256, div-div-eq-div-mul n 65536 256, div-div-eq-div-mul n 16777216 256, div-div-eq-div-mul n 4294967296 256, div-div-eq-div-mul n 1099511627776 256, div-div-eq-div-mul n 281474976710656 256)
 
 pub packed-length : (t : List ℕ) → length (packed t) ≡ 8 + length t
 packed-length t = length-append (low_bytes 8 (length t)) t ∙ ap (λ (n : ℕ). n + length t) (low-length 8 (length t))

@@ -16,6 +16,7 @@ fn hash_text(s: &[u8], q: u8) -> usize
 {
     let mut h = 0;
     let mut i = 0;
+    // Kept: the place moves by what a unit takes.
     while i < s.len() {
         let x = unit_at(s, i, q);
         if x.size == 0 {
@@ -42,8 +43,7 @@ fn seek(t: &[u8], own: &[usize], s: &[u8], q: u8) -> Seek
     if own.len() == 0 {
         return Seek::Unsure;
     }
-    let mut i = hash_text(s, q) % own.len();
-    while i < own.len() {
+    for i in hash_text(s, q) % own.len()..own.len() {
         let v = own[i];
         if v == 0 {
             return Seek::Free(i);
@@ -54,7 +54,6 @@ fn seek(t: &[u8], own: &[usize], s: &[u8], q: u8) -> Seek
         if is_at(t, v - 1, s, q) {
             return Seek::Held;
         }
-        i += 1;
     }
     Seek::Unsure
 }

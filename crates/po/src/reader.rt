@@ -56,6 +56,7 @@ fn is_formed(l: &[u8], a: usize) -> bool
     ensures { result ≡ formed (drop a l.now) }
 {
     let mut i = a;
+    // Kept: the place moves by what a unit takes.
     while i < l.len() {
         let x = unit_at(l, i, QUOTE);
         if x.size == 0 {
@@ -86,9 +87,7 @@ fn is_quoted(w: &[u8], l: &[u8]) -> bool
 fn last_colon(l: &[u8]) -> usize
     ensures { result ≡ colon l.now (length l.now) }
 {
-    let mut e = l.len();
-    while 0 < e {
-        e -= 1;
+    for e in (0..l.len()).rev() {
         if l[e] == b':' {
             return e;
         }
@@ -194,8 +193,7 @@ fn is_above(file: &[u8], k: usize, s: &[u8]) -> bool
 {
     let mut i = 0;
     let mut w = 0;
-    let mut j = 0;
-    while j < k {
+    for _ in 0..k {
         let e = lines::find_byte(file, i, 10);
         if is_same_id(w, lines::cut(file, i, e), s) {
             return true;
@@ -205,7 +203,6 @@ fn is_above(file: &[u8], k: usize, s: &[u8]) -> bool
         }
         w = next_awaited(w);
         i = e + 1;
-        j += 1;
     }
     false
 }
@@ -332,6 +329,7 @@ fn plain_len(s: &[u8], q: u8) -> usize
 {
     let mut n = 0;
     let mut i = 0;
+    // Kept: the place moves by what a unit takes.
     while i < s.len() {
         let x = unit_at(s, i, q);
         if x.size == 0 {
@@ -363,6 +361,7 @@ pub fn check_file(file: &[u8], own: &mut [usize]) -> Strings
     slots::wipe(own);
     let mut r = first_line(file);
     let mut n = 0;
+    // Kept: each line is read by what the one before it left.
     while r.end < file.len() {
         if !is_awaited(file, r, own) {
             return Err(StringsRefusal::BadLine(r.number));
@@ -384,15 +383,7 @@ fn put_size(out: &mut [u8], o: usize, n: usize) -> usize
     requires { o + 8 ≤ length out.old }
     ensures { Wrote out.old o (low_bytes 8 n) out.new result }
 {
-    let mut p = o;
-    let mut m = n;
-    let mut k: usize = 0;
-    while k < 8 {
-        p = lines::put_byte(out, p, (m % 256) as u8);
-        m /= 256;
-        k += 1;
-    }
-    p
+    lines::put(out, o, &n.to_le_bytes())
 }
 
 // Writes the text of a literal, and returns the place after it.
@@ -402,6 +393,7 @@ fn put_plain(out: &mut [u8], o: usize, s: &[u8], q: u8) -> usize
 {
     let mut p = o;
     let mut i = 0;
+    // Kept: the place moves by what a unit takes.
     while i < s.len() {
         let x = unit_at(s, i, q);
         if x.size == 0 {
@@ -445,6 +437,7 @@ pub fn put_strings(out: &mut [u8], file: &[u8]) -> usize
     let mut i = 0;
     let mut w = 0;
     let mut e = lines::find_byte(file, 0, 10);
+    // Kept: what stands behind the last LF is a part too, even where it is empty.
     while e < file.len() {
         o = put_given(out, o, w, lines::cut(file, i, e));
         w = next_awaited(w);

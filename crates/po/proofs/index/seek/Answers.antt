@@ -12,12 +12,6 @@ use Rattle.po.proofs.index.seek.Goals as goal
 pub returns-then-own-eq0 : goal.returns-then-own-eq0
 returns-then-own-eq0 c = let a = c.args in sym (seek-none a.t.now a.own.now (decoded a.s.now a.q) c.if-own-eq0.true)
 
-pub hash_text-requires : goal.hash_text-requires
-hash_text-requires c = tt
-
-pub nonzero_rem-i : goal.nonzero_rem-i
-nonzero_rem-i c = let z = c.if-own-eq0.false in omega (arith, z)
-
 pub loop-i-init : goal.loop-i-init
 loop-i-init c = let a = c.args in seek-starts a.t.now a.own.now (decoded a.s.now a.q) _ c.hash_text.ensures
 

@@ -1,12 +1,8 @@
-use Prim.Native.Nat.{◌-◌}
 use mathlib.Core.Path.{◌≡◌}
-use lib.ListN.{length, drop}
+use lib.ListN.{drop}
 use Rattle.po.specs.Found.{decoded}
 use Rattle.po.specs.Inner.Index.{seek_go, seek_of}
 use Rattle.po.proofs.index.seek.Given as goal
 
 abbrev pub invariant-loop-i : goal.invariant-loop-i
 invariant-loop-i l = seek_of l.t l.own (decoded l.s l.q) ≡ seek_go l.t (drop l.i l.own) l.i (decoded l.s l.q)
-
-abbrev pub decreases-loop-i : goal.decreases-loop-i
-decreases-loop-i l = length l.own - l.i

@@ -11,38 +11,23 @@ use Rattle.po.specs.Inner.ReadWalk.{met, next_of}
 use Rattle.po.proofs.StateLaws.{met-known, met-none, met-first, met-last, met-yes, next_low}
 use Rattle.po.proofs.reader.is_above.Goals as goal
 
-pub loop-j-init : goal.loop-j-init
-loop-j-init c = let a = c.args in let z : a.k - 0 ≡ a.k = omega arith in (omega arith, (omega arith, (omega arith, ap (λ (n : ℕ). met 0 (take n (parts_of 10 a.file.now)) (decoded a.s.now 34)) z)))
-
-pub find_byte-e-requires : goal.find_byte-e-requires
-find_byte-e-requires c = tt
-
-pub cut-requires : goal.cut-requires
-cut-requires c = tt
-
-pub is_same_id-requires : goal.is_same_id-requires
-is_same_id-requires c = tt
+pub loop-init : goal.loop-init
+loop-init c = let a = c.args in let z : a.k - 0 ≡ a.k = omega arith in (omega arith, (omega arith, ap (λ (n : ℕ). met 0 (take n (parts_of 10 a.file.now)) (decoded a.s.now 34)) z))
 
 pub returns-then-is_same_id : goal.returns-then-is_same_id
-returns-then-is_same_id c = let a = c.args in let l = c.loop-j in met-yes a.file.now l.i _ l.invariant.0 c.find_byte-e.ensures a.k l.j c.loop-j-test.true l.w (decoded a.s.now 34) _ (c.is_same_id.ensures ∙ ap (λ (y : List ℕ). same_id l.w y (decoded a.s.now 34)) c.cut.ensures) c.if-is_same_id.true ∙ l.invariant.1.1.1 ∙ met-known a.file.now a.k (decoded a.s.now 34)
+returns-then-is_same_id c = let a = c.args in let l = c.loop in met-yes a.file.now l.i _ l.invariant.0 c.find_byte-e.ensures a.k l.counter (omega arith) l.w (decoded a.s.now 34) _ (c.is_same_id.ensures ∙ ap (λ (y : List ℕ). same_id l.w y (decoded a.s.now 34)) c.cut.ensures) c.if-is_same_id.true ∙ l.invariant.1.1 ∙ met-known a.file.now a.k (decoded a.s.now 34)
 
 pub returns-then-file-e : goal.returns-then-file-e
-returns-then-file-e c = let a = c.args in let l = c.loop-j in sym c.if-is_same_id.false ∙ sym (met-last a.file.now l.i _ l.invariant.0 c.find_byte-e.ensures a.k l.j c.loop-j-test.true l.w (decoded a.s.now 34) _ (c.is_same_id.ensures ∙ ap (λ (y : List ℕ). same_id l.w y (decoded a.s.now 34)) c.cut.ensures) c.if-file-e.true) ∙ l.invariant.1.1.1 ∙ met-known a.file.now a.k (decoded a.s.now 34)
+returns-then-file-e c = let a = c.args in let l = c.loop in sym c.if-is_same_id.false ∙ sym (met-last a.file.now l.i _ l.invariant.0 c.find_byte-e.ensures a.k l.counter (omega arith) l.w (decoded a.s.now 34) _ (c.is_same_id.ensures ∙ ap (λ (y : List ℕ). same_id l.w y (decoded a.s.now 34)) c.cut.ensures) c.if-file-e.true) ∙ l.invariant.1.1 ∙ met-known a.file.now a.k (decoded a.s.now 34)
 
 pub next_awaited-w-requires : goal.next_awaited-w-requires
-next_awaited-w-requires c = c.loop-j.invariant.1.1.0
+next_awaited-w-requires c = c.loop.invariant.1.0
 
 pub overflow_add-i : goal.overflow_add-i
 overflow_add-i c = omega (arith, c.if-file-e.false)
 
-pub overflow_add-j : goal.overflow_add-j
-overflow_add-j c = omega (arith, c.loop-j-test.true)
-
-pub loop-j-smaller : goal.loop-j-smaller
-loop-j-smaller c = omega (arith, c.loop-j-test.true)
-
-pub loop-j-preserved : goal.loop-j-preserved
-loop-j-preserved c = let a = c.args in let l = c.loop-j in let low = next_low l.w l.invariant.1.1.0 in (omega (arith, c.if-file-e.false), (omega (arith, c.loop-j-test.true), (omega (arith, c.next_awaited-w.ensures), ap (λ (x : ℕ). met x (take (a.k - (l.j + 1)) (parts_of 10 (drop (c.find_byte-e.result + 1) a.file.now))) (decoded a.s.now 34)) c.next_awaited-w.ensures ∙ sym (met-first a.file.now l.i _ l.invariant.0 c.find_byte-e.ensures a.k l.j c.loop-j-test.true l.w (decoded a.s.now 34) _ (c.is_same_id.ensures ∙ ap (λ (y : List ℕ). same_id l.w y (decoded a.s.now 34)) c.cut.ensures) c.if-file-e.false ∙ ap (λ (b : Bool). b || met (next_of l.w) (take (a.k - (l.j + 1)) (parts_of 10 (drop (c.find_byte-e.result + 1) a.file.now))) (decoded a.s.now 34)) c.if-is_same_id.false) ∙ l.invariant.1.1.1)))
+pub loop-preserved : goal.loop-preserved
+loop-preserved c = let a = c.args in let l = c.loop in let low = next_low l.w l.invariant.1.0 in (omega (arith, c.if-file-e.false), (omega (arith, c.next_awaited-w.ensures), ap (λ (x : ℕ). met x (take (a.k - (l.counter + 1)) (parts_of 10 (drop (c.find_byte-e.result + 1) a.file.now))) (decoded a.s.now 34)) c.next_awaited-w.ensures ∙ sym (met-first a.file.now l.i _ l.invariant.0 c.find_byte-e.ensures a.k l.counter (omega arith) l.w (decoded a.s.now 34) _ (c.is_same_id.ensures ∙ ap (λ (y : List ℕ). same_id l.w y (decoded a.s.now 34)) c.cut.ensures) c.if-file-e.false ∙ ap (λ (b : Bool). b || met (next_of l.w) (take (a.k - (l.counter + 1)) (parts_of 10 (drop (c.find_byte-e.result + 1) a.file.now))) (decoded a.s.now 34)) c.if-is_same_id.false) ∙ l.invariant.1.1))
 
 pub returns : goal.returns
-returns c = let a = c.args in let l = c.loop-j in sym (met-none l.w (a.k - l.j) (parts_of 10 (drop l.i a.file.now)) (decoded a.s.now 34) (omega (arith, c.loop-j-test.false))) ∙ l.invariant.1.1.1 ∙ met-known a.file.now a.k (decoded a.s.now 34)
+returns c = let a = c.args in let l = c.loop in sym (met-none l.w (a.k - l.counter) (parts_of 10 (drop l.i a.file.now)) (decoded a.s.now 34) (omega arith)) ∙ l.invariant.1.1 ∙ met-known a.file.now a.k (decoded a.s.now 34)
