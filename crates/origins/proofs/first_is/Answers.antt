@@ -11,6 +11,6 @@ pub returns : goal.returns
 returns c =
     c.starts_with.ensures.value ∙ starts_is_prefixed c.args.line.now c.args.s.now
     ∙ elim c.else-n-s.branch [
-        else-n-s-via-then-n-s+else-s-n-ne10 w ↦ first_on _ _ w.if-n-s.true w.if-s-n-ne10.false
-        | else-n-s-via-else-n-s w ↦ first_short _ _ w.if-n-s.false
-      ]
+      | else-n-s-via-then-n-s+else-s-n-ne10 w ↦ first_on _ _ w.if-n-s.true w.if-s-n-ne10.false
+      | else-n-s-via-else-n-s w ↦ first_short _ _ w.if-n-s.false
+    ]

@@ -10,5 +10,5 @@ pub returns : goal.returns
 returns c =
     let s = c.args.moves.now in
     let e : c.position.result ≡ position (λ x. x == 0) s =
-        position_from_yields_List (λ x. x == 0) _ _ _ c.position.ensures.ran (YieldsList-from_slice s (cc)) (λ x b q k. search (rules, tests)) in
+    position_from_yields_List (λ x. x == 0) _ _ _ c.position.ensures.ran (YieldsList-from_slice s (cc)) (λ x b q k. search (rules, tests)) in
     c.unwrap_or.ensures ∙ ap (λ (o : Option ℕ). unwrap_or o (length s)) e ∙ position_is_up_to 0 s

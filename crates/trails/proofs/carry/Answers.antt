@@ -12,12 +12,12 @@ loop-i-preserved c =
     let h = l.invariant in
     let a : l.i < length l.raw = omega (arith, h.long, c.loop-i-test.true) in
     elim c.if-raw-i-eq0.branch [
-      then-raw-i-eq0+else-k-moves w ↦
-        let b : l.k < length c.args.moves.now = omega (arith, h.k≤, w.if-k-moves.false) in
-        elim w.if-d-ne0.branch [
-          then-d-ne0 w' ↦ carry-at (carry-goes h a b w.if-raw-i-eq0.true w'.sent-s.result (sent-below l.raw l.i (get_or c.args.moves.now l.k 0) w'.sent-s.ensures)) (w.raw-is ∙ w'.raw-is) w.k-is
-          | else-d-ne0 w' ↦ carry-at (carry-stays h a b w.if-raw-i-eq0.true w'.if-d-ne0.false) (w.raw-is ∙ w'.raw-is) w.k-is
-        ]
+      | then-raw-i-eq0+else-k-moves w ↦
+          let b : l.k < length c.args.moves.now = omega (arith, h.k≤, w.if-k-moves.false) in
+          elim w.if-d-ne0.branch [
+            | then-d-ne0 w' ↦ carry-at (carry-goes h a b w.if-raw-i-eq0.true w'.sent-s.result (sent-below l.raw l.i (get_or c.args.moves.now l.k 0) w'.sent-s.ensures)) (w.raw-is ∙ w'.raw-is) w.k-is
+            | else-d-ne0 w' ↦ carry-at (carry-stays h a b w.if-raw-i-eq0.true w'.if-d-ne0.false) (w.raw-is ∙ w'.raw-is) w.k-is
+          ]
       | else-raw-i-eq0 w ↦ carry-at (carry-past h a w.if-raw-i-eq0.false) w.raw-is w.k-is
     ]
 

@@ -11,7 +11,7 @@ loop-j-preserved c =
     let s = c.args.below.now in
     let l = c.loop-j in
     elim c.if-m-eq0.branch [
-      then-m-eq0 w ↦ ap (goes_to s (l.j + 1)) w.c-is ∙ goes-here s l.j c.loop-j-test.true l.c (omega arith) w.if-m-eq0.true ∙ l.invariant
+      | then-m-eq0 w ↦ ap (goes_to s (l.j + 1)) w.c-is ∙ goes-here s l.j c.loop-j-test.true l.c (omega arith) w.if-m-eq0.true ∙ l.invariant
       | else-m-eq0 w ↦ ap (goes_to s (l.j + 1)) w.c-is ∙ goes-past s l.j c.loop-j-test.true l.c (omega arith) w.if-m-eq0.false ∙ l.invariant
     ]
 
