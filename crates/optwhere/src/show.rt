@@ -36,17 +36,6 @@ pub fn put_numbers(rt: &HostRuntime, numbers: &[usize], n: usize) -> Sent {
     Sent::Whole
 }
 
-// The place behind line `to`, from the place behind line `from` on.
-fn behind(raw: &[u8], at: usize, from: usize, to: usize) -> usize {
-    let mut place = at;
-    let mut line = from;
-    while line < to {
-        place = lines::after(raw, lines::find_byte(raw, place, 10));
-        line += 1;
-    }
-    place
-}
-
 // The line at a place, without a CR before its LF.
 fn line_at(raw: &[u8], at: usize) -> &[u8] {
     let e = lines::find_byte(raw, at, 10);
@@ -83,7 +72,7 @@ pub fn put_lines(rt: &HostRuntime, numbers: &[usize], n: usize, raw: &[u8], name
     let mut line = 0;
     while i < n {
         let next = number_at(numbers, i);
-        at = behind(raw, at, line, next);
+        at = lines::behind(raw, at, b'\n', next.saturating_sub(line));
         line = next;
         match put_line(rt, name, next, line_at(raw, at)) {
             Sent::Whole => {}

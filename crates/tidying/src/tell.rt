@@ -43,21 +43,10 @@ fn from_one(n: usize) -> usize {
     if n < usize::MAX { n + 1 } else { n }
 }
 
-// The place behind `n` bytes `b`, from `from` on; the end of the text where it has fewer.
-fn behind(text: &[u8], from: usize, b: u8, n: usize) -> usize {
-    let mut at = from;
-    let mut left = n;
-    while left > 0 {
-        at = lines::after(text, lines::find_byte(text, at, b));
-        left -= 1;
-    }
-    at
-}
-
 // Where the byte stands that is one `[` too many, in line `n`.
 fn crowded_at(text: &[u8], n: usize) -> usize {
-    let start = behind(text, 0, 10, n);
-    lines::find_byte(text, behind(text, start, b'[', 64), b'[')
+    let start = lines::behind(text, 0, b'\n', n);
+    lines::find_byte(text, lines::behind(text, start, b'[', 64), b'[')
 }
 
 // Says where a byte stands: its line and its place in that line, from 1, and its place in the text, from 0.
@@ -139,7 +128,7 @@ fn explain_lines(rt: &HostRuntime, program: &[u8], text: &[u8], place: usize) {
         program,
         b"the first byte too many",
         text,
-        behind(text, 0, 10, place),
+        lines::behind(text, 0, b'\n', place),
     );
     say_whole(rt, program);
 }
