@@ -72,7 +72,7 @@ pub fn put_lines(rt: &HostRuntime, numbers: &[usize], n: usize, raw: &[u8], name
     let mut line = 0;
     while i < n {
         let next = number_at(numbers, i);
-        at = lines::behind(raw, at, b'\n', next.saturating_sub(line));
+        at = input::behind(raw, at, b'\n', next.saturating_sub(line));
         line = next;
         match put_line(rt, name, next, line_at(raw, at)) {
             Sent::Whole => {}

@@ -45,8 +45,8 @@ fn from_one(n: usize) -> usize {
 
 // Where the byte stands that is one `[` too many, in line `n`.
 fn crowded_at(text: &[u8], n: usize) -> usize {
-    let start = lines::behind(text, 0, b'\n', n);
-    lines::find_byte(text, lines::behind(text, start, b'[', 64), b'[')
+    let start = input::behind(text, 0, b'\n', n);
+    lines::find_byte(text, input::behind(text, start, b'[', 64), b'[')
 }
 
 // Says where a byte stands: its line and its place in that line, from 1, and its place in the text, from 0.
@@ -128,7 +128,7 @@ fn explain_lines(rt: &HostRuntime, program: &[u8], text: &[u8], place: usize) {
         program,
         b"the first byte too many",
         text,
-        lines::behind(text, 0, b'\n', place),
+        input::behind(text, 0, b'\n', place),
     );
     say_whole(rt, program);
 }
