@@ -1,3 +1,4 @@
 pub mod Walk
 pub mod ReadWalk
 pub mod Index
+pub mod Units

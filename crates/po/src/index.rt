@@ -4,7 +4,7 @@ ghost use Rattle.lines.specs.Lf.{same};
 ghost use Rattle.po.specs.Found.{decoded};
 ghost use Rattle.po.specs.Inner.Index.{key_at, hash_of, seek_of, hint_of, free_or, entered};
 
-use crate::{Seek, same_text, unit_at};
+use crate::{Seek, same_text, units};
 
 const BASE: usize = 65599;
 
@@ -15,15 +15,8 @@ fn hash_text(s: &[u8], q: u8) -> usize
     ensures { result ≡ hash_of 0 (decoded s.now q) }
 {
     let mut h = 0;
-    let mut i = 0;
-    // Kept: the place moves by what a unit takes.
-    while i < s.len() {
-        let x = unit_at(s, i, q);
-        if x.size == 0 {
-            return h;
-        }
-        h = (h * BASE + x.byte as usize) % PRIME;
-        i += x.size;
+    for b in units::each(s, q) {
+        h = (h * BASE + b as usize) % PRIME;
     }
     h
 }
