@@ -68,12 +68,12 @@ fn stands_at(raw: &[u8], front: &[u8], at: usize) -> bool {
 // How many of the first `n` lines are no declarations.
 fn others_in(text: &[u8], n: usize) -> usize {
     let mut at = 0;
-    let mut count = 0;
+    let mut count = 0usize;
     let mut rest = n;
     while rest > 0 {
         let e = lines::find_byte(text, at, 10);
         if !parse::declares(lines::cut(text, at, e)) {
-            count = crate::tell::from_one(count);
+            count = count.saturating_add(1);
         }
         at = lines::after(text, e);
         rest -= 1;

@@ -2,27 +2,7 @@
 // fixed words, so that no name makes one kind of message look like another.
 use crate::against::Found;
 use crate::left::Missing;
-use input::host;
-
-fn say(rt: &HostRuntime, text: &[u8]) {
-    host::say(rt, text);
-}
-
-fn say_number(rt: &HostRuntime, n: usize) {
-    host::say_number(rt, n as u64);
-}
-
-// Says what cannot be done to what, and the system's reason.
-pub fn fail(rt: &HostRuntime, verb: &[u8], name: &[u8], why: i32) {
-    say(rt, b"optcheck: cannot ");
-    say(rt, verb);
-    host::say_failed(rt, name, why);
-}
-
-// A place from 0 as it is counted from 1.
-pub fn from_one(n: usize) -> usize {
-    if n < usize::MAX { n + 1 } else { n }
-}
+use input::host::{say, say_number};
 
 // The place behind `n` lines; the end of the text where it has fewer.
 fn behind(text: &[u8], n: usize) -> usize {
@@ -37,7 +17,7 @@ fn behind(text: &[u8], n: usize) -> usize {
 
 // The number, from 1, of the line at a place.
 fn line_number(text: &[u8], at: usize) -> usize {
-    from_one(lines::count_byte(lines::cut(text, 0, at), 10))
+    lines::count_byte(lines::cut(text, 0, at), 10).saturating_add(1)
 }
 
 // Says the line of a text that stands at a place.
@@ -56,7 +36,7 @@ fn say_left_out(rt: &HostRuntime, raw: &[u8], at: usize, p: &[u8]) {
     match crate::left::left_out(raw, at, p) {
         Missing::Reg(q) => {
             say(rt, b"optcheck: r");
-            host::say_number(rt, q.0);
+            say_number(rt, q.0);
             say(rt, b" is left out, and raw line ");
             say_number(rt, line_number(raw, crate::left::use_at(raw, at, q)));
             say(rt, b" uses it\n");
@@ -106,7 +86,7 @@ fn explain_listing(rt: &HostRuntime, number: u8, place: usize) {
         5 => say(rt, b" has more than 1024 lines\n"),
         6 => {
             say(rt, b" has more than 64 opening brackets [ in line ");
-            say_number(rt, from_one(place));
+            say_number(rt, place.saturating_add(1));
             say(rt, b"\n");
         }
         _ => say(
@@ -119,7 +99,7 @@ fn explain_listing(rt: &HostRuntime, number: u8, place: usize) {
 // Tells a person of a refusal.
 pub fn explain(rt: &HostRuntime, number: u8, place: usize, raw: &[u8], other: &[u8]) {
     say(rt, b"optcheck: refused ");
-    say_number(rt, number as usize);
+    say_number(rt, number);
     say(rt, b": ");
     if number == 7 {
         explain_astray(rt, place, raw, other);
