@@ -2,6 +2,7 @@
 // 30 MB of the stack: tools/front.sh raises its limit. A listing that is small enough goes the way of optlines, unless its records are asked for in the form `OM`.
 #![tactic(auto)]
 
+use input::host;
 use limits::Answer;
 use origins::Form;
 use tidying::asked::Task;
@@ -38,24 +39,24 @@ fn answer_large(
     out: &mut [u8],
     orig: &mut [u8],
 ) -> Answer {
-    let mut a = [0; WORK];
-    let mut b = [0; WORK];
-    let mut c = [0; WORK];
-    let mut d = [0; WORK];
-    let mut e = [0; WORK];
-    let mut f = [0; REGISTERS];
-    let mut g = [0; REGISTERS];
-    let mut h = [0; LINES];
-    let mut u = [0; BLOCKS];
-    let mut v = [0; NOTES];
-    let mut w = [0; NOTES];
-    let mut x = [0; NOTES];
-    let mut p = [0; LINES];
-    let mut q = [0; LINES];
-    let mut r = [0; REGISTERS];
-    let mut t = [0; REGISTERS];
-    let mut own = [0; OWNERS];
-    let mut table = [0; LINES];
+    let mut a = host::room::<u8, WORK>();
+    let mut b = host::room::<u8, WORK>();
+    let mut c = host::room::<u8, WORK>();
+    let mut d = host::room::<u8, WORK>();
+    let mut e = host::room::<u8, WORK>();
+    let mut f = host::room::<u8, REGISTERS>();
+    let mut g = host::room::<u8, REGISTERS>();
+    let mut h = host::room::<u8, LINES>();
+    let mut u = host::room::<u32, BLOCKS>();
+    let mut v = host::room::<u32, NOTES>();
+    let mut w = host::room::<u32, NOTES>();
+    let mut x = host::room::<u32, NOTES>();
+    let mut p = host::room::<usize, LINES>();
+    let mut q = host::room::<usize, LINES>();
+    let mut r = host::room::<usize, REGISTERS>();
+    let mut t = host::room::<usize, REGISTERS>();
+    let mut own = host::room::<usize, OWNERS>();
+    let mut table = host::room::<usize, LINES>();
     match pass {
         Some(pass) => opt::run_pass_large(
             pass, mode, form, text, &mut a, &mut b, &mut c, &mut d, &mut e, &mut f, &mut g, &mut h,
@@ -94,9 +95,9 @@ fn main(rt: HostRuntime) {
         &rt,
         b"optlarge",
         true,
-        &mut [0; TEXT],
-        &mut [0; WORK],
-        &mut [0; RECORDS],
+        &mut host::room::<u8, TEXT>(),
+        &mut host::room::<u8, WORK>(),
+        &mut host::room::<u8, RECORDS>(),
         answer,
     );
 }

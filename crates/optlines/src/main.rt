@@ -3,6 +3,8 @@
 // anything else where it could not read or write: it sets no exit status, so tools/front.sh makes one of that.
 #![tactic(auto)]
 
+use input::host;
+
 // Room for a text: one byte more than is taken, so that a longer text is seen.
 const TEXT: usize = 16385;
 
@@ -17,9 +19,9 @@ fn main(rt: HostRuntime) {
         &rt,
         b"optlines",
         false,
-        &mut [0; TEXT],
-        &mut [0; RESULT],
-        &mut [0; RECORDS],
+        &mut host::room::<u8, TEXT>(),
+        &mut host::room::<u8, RESULT>(),
+        &mut host::room::<u8, RECORDS>(),
         |task, _, text, out, orig| tidying::answer_small(task, text, out, orig),
     );
 }

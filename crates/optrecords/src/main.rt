@@ -14,6 +14,9 @@ use reader::Reply;
 // How many bytes are taken: 100,000 records of the longer form.
 const MOST: usize = 1100000;
 
+// Room for what is read: one byte more than is taken, so that a longer file is seen.
+const ROOM: usize = MOST + 1;
+
 // Writes what came of a file to standard output.
 fn write_answer(rt: &HostRuntime, answer: Reply, out: &[u8]) -> Result<(), Failure> {
     match reader::number_of(answer) {
@@ -24,7 +27,7 @@ fn write_answer(rt: &HostRuntime, answer: Reply, out: &[u8]) -> Result<(), Failu
 
 // Writes a file in the form `g`, or why it is not written. No file that is taken is longer in either form.
 fn answer_to(rt: &HostRuntime, g: Form, file: &[u8]) {
-    let mut out = [0; MOST];
+    let mut out = host::room::<u8, MOST>();
     let answer = reader::turn(reader::form_of(file), g, file, &mut out);
     if let Err(why) = write_answer(rt, answer, &out) {
         host::say_failed(rt, b"optrecords", b"write", b"standard output", why);
@@ -38,8 +41,7 @@ fn answer_to(rt: &HostRuntime, g: Form, file: &[u8]) {
 
 // Reads standard input whole, and writes it in the form `g`. Of a file that did not come whole nothing is written.
 fn take_input(rt: &HostRuntime, g: Form) {
-    // One byte more than is taken, so that a longer file is seen.
-    let mut room = [0; MOST + 1];
+    let mut room = host::room::<u8, ROOM>();
     match input::read_standard(rt, b"optrecords", &mut room) {
         Some(file) if file.len() <= MOST => answer_to(rt, g, file),
         Some(_) => host::say(

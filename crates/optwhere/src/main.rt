@@ -17,6 +17,11 @@ const LINES: usize = 100000;
 // How many bytes of a raw listing are taken.
 const RAW_MOST: usize = 1048576;
 
+// Rooms for both: one byte more than is taken, so that a longer file is seen.
+const ROOM: usize = MOST + 1;
+
+const RAW_ROOM: usize = RAW_MOST + 1;
+
 // Reads the file of a name, of at most so many bytes; says why where it did not come whole.
 fn load_named<'a>(
     rt: &HostRuntime,
@@ -65,8 +70,8 @@ fn behind<'a>(
 
 // Takes the records that argument `at` names, and writes the numbers of the lines that are behind line `n`.
 fn answer_numbers(rt: &HostRuntime, at: usize, n: usize) {
-    let mut file_room = [0; MOST + 1];
-    let mut line_room = [0; LINES];
+    let mut file_room = host::room::<u8, ROOM>();
+    let mut line_room = host::room::<usize, LINES>();
     if let Some(file) = load(rt, at, &mut file_room)
         && let Some(numbers) = behind(rt, file, n, &mut line_room)
         && let Err(why) = show::put_numbers(rt, numbers)
@@ -77,8 +82,8 @@ fn answer_numbers(rt: &HostRuntime, at: usize, n: usize) {
 
 // Takes the records that argument `at` names, and writes the lines of a raw listing that are behind line `n`, each behind the name of its file and its number.
 fn answer_lines(rt: &HostRuntime, at: usize, n: usize, raw: &[u8], name: &[u8]) {
-    let mut file_room = [0; MOST + 1];
-    let mut line_room = [0; LINES];
+    let mut file_room = host::room::<u8, ROOM>();
+    let mut line_room = host::room::<usize, LINES>();
     let Some(file) = load(rt, at, &mut file_room) else {
         return;
     };
@@ -96,7 +101,7 @@ fn answer_lines(rt: &HostRuntime, at: usize, n: usize, raw: &[u8], name: &[u8]) 
 
 // Answers `--vim RAW RECORDS LINE`, where the raw listing has a name: lines count from 1.
 fn for_editor(rt: &HostRuntime, name: &[u8]) {
-    let mut raw_room = [0; RAW_MOST + 1];
+    let mut raw_room = host::room::<u8, RAW_ROOM>();
     match number_at(rt, 4) {
         None | Some(0) => tell::no_number(rt, 4),
         Some(n) => {

@@ -10,14 +10,19 @@ use input::host::Failure;
 use limits::Answer;
 use origins::Form;
 
+// The sizes of the work buffers of the first pair.
+const BYTES: usize = 32769;
+
+const BLOCKS: usize = 16384;
+
 // Does to a text what is asked, by the first pair, with the work buffers that it needs.
 pub fn answer_small(task: Task, text: &[u8], out: &mut [u8], orig: &mut [u8]) -> Answer {
-    let mut a = [0; 32769];
-    let mut b = [0; 32769];
-    let mut c = [0; 32769];
-    let mut d = [0; 32769];
-    let mut e = [0; 32769];
-    let mut u = [0; 16384];
+    let mut a = host::room::<u8, BYTES>();
+    let mut b = host::room::<u8, BYTES>();
+    let mut c = host::room::<u8, BYTES>();
+    let mut d = host::room::<u8, BYTES>();
+    let mut e = host::room::<u8, BYTES>();
+    let mut u = host::room::<u32, BLOCKS>();
     let mode = task.mode();
     match task.pass {
         Some(pass) => opt::run_pass(
