@@ -47,10 +47,10 @@ impl Work {
 
     // Whether each buffer is as it should be.
     fn is_fixed(&self, ran: bool) -> bool {
-        lent::as_fixed(&self.a, pruned::BYTES, ran)
-            & lent::as_fixed(&self.b, pruned::BYTES, ran)
-            & lent::as_fixed(&self.c, pruned::BYTES, ran)
-            & lent::as_fixed(&self.live, pruned::PLACES, ran)
+        lent::as_fixed(&self.a, lent::BYTE, pruned::BYTES, ran)
+            & lent::as_fixed(&self.b, lent::BYTE, pruned::BYTES, ran)
+            & lent::as_fixed(&self.c, lent::BYTE, pruned::BYTES, ran)
+            & lent::as_fixed(&self.live, lent::BYTE, pruned::PLACES, ran)
     }
 }
 

@@ -1,6 +1,6 @@
 // Requests to check prunings, and answers to them.
 use input::host;
-use input::wire::{read_bytes, read_full};
+use input::wire::{bytes_of, four, read_bytes, read_full};
 use std::io::Stdin;
 
 // A request: which work buffer is short, and how much there is of the raw text and of the other.
@@ -23,7 +23,7 @@ fn read_text(from: &mut Stdin, text: &mut [u8]) -> Option<usize> {
     if read_full(from, &mut size) != size.len() {
         return None;
     }
-    let n = u32::from_le_bytes(size) as usize;
+    let n = four(size);
     read_bytes(from, n, text).then_some(n)
 }
 
@@ -41,6 +41,6 @@ pub fn write_answer(rt: &HostRuntime, number: u8, memory: bool, place: usize) ->
     let mut head = [0; 6];
     head[0] = number;
     head[1] = u8::from(memory);
-    head[2..].copy_from_slice(&place.to_le_bytes()[..4]);
-    host::is_whole(host::write(rt, &head))
+    head[2..].copy_from_slice(&bytes_of(place));
+    host::write(rt, &head).is_ok()
 }

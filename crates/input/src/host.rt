@@ -1,17 +1,24 @@
-// The program's arguments, its standard streams, and files by name, over the system. Why something failed is the system's number.
+// The program's arguments, its standard streams, and files by name, over the system.
 ghost use Rattle.std.specs.Prelude.{◌≡◌, ◌≤◌, length};
 
 use std::env::{Env, FillError};
-use std::fmt::InlineText;
+use std::fmt::{Display, Formatter, InlineText};
 use std::fs::File;
 use std::io::{Error, Read, Write};
-use std::ops::BitAnd;
-use std::str;
+use std::str::Utf8Error;
+use std::{fmt, str};
 
-// The system's numbers: for a call that was interrupted, a device that failed, an argument that is missing, a file that cannot be asked to keep what was written,
-// an argument that is too long, and a name that is not UTF-8, which no file is opened by.
-pub const INTERRUPTED: i32 = 4;
+// Why something failed: an argument is missing or longer than its room, a name, by which no file is opened, is not UTF-8, or the system gave a number.
+#[derive(Clone, Copy, PartialEq, Eq)]
+pub enum Failure {
+    Missing,
+    TooLong,
+    NotUtf8,
+    System(i32),
+}
 
+// The system's numbers: for a device that failed, an argument that is missing, a file that cannot be asked to keep what was written,
+// an argument that is too long, and a name that is not UTF-8.
 const DEVICE: i32 = 5;
 
 const MISSING: i32 = 22;
@@ -22,219 +29,211 @@ const TOO_LONG: i32 = 36;
 
 const NOT_UTF8: i32 = 84;
 
+impl From<Error> for Failure {
+    fn from(e: Error) -> Failure {
+        Failure::System(e.raw_os_error().unwrap_or(DEVICE))
+    }
+}
+
+impl From<FillError> for Failure {
+    fn from(e: FillError) -> Failure {
+        match e {
+            FillError::NotPresent => Failure::Missing,
+            FillError::TooLong => Failure::TooLong,
+        }
+    }
+}
+
+impl From<Utf8Error> for Failure {
+    fn from(_e: Utf8Error) -> Failure {
+        Failure::NotUtf8
+    }
+}
+
+// The system's reason, without the number behind it.
+impl Display for Failure {
+    fn fmt<W: fmt::Write>(&self, f: &mut Formatter<W>) -> fmt::Result {
+        let number = match *self {
+            Failure::Missing => MISSING,
+            Failure::TooLong => TOO_LONG,
+            Failure::NotUtf8 => NOT_UTF8,
+            Failure::System(number) => number,
+        };
+        let reason = InlineText::<256>::of(Error::from_raw_os_error(number));
+        match reason.as_str().split_once(" (os error ") {
+            Some((words, _)) => f.write_str(words),
+            None => f.write_str(reason.as_str()),
+        }
+    }
+}
+
+// A room of zeros. It is made by a function, so that no proof counts the zeros of a large one.
+pub fn room<T: Copy + Default, const N: usize>() -> [T; N]
+    ensures { N ≡ length result }
+{
+    [T::default(); N]
+}
+
 // 4,096 zeros, which hold any path.
 pub fn buffer() -> [u8; 4096]
     ensures { 4096 ≡ length result }
 {
-    [0; 4096]
+    room()
 }
 
 // 65,536 zeros.
 pub fn large_buffer() -> [u8; 65536]
     ensures { 65536 ≡ length result }
 {
-    [0; 65536]
+    room()
 }
 
-// The system's number for an error.
-pub fn number_of(e: Error) -> i32 {
-    match e.raw_os_error() {
-        Some(n) => n,
-        None => DEVICE,
-    }
-}
-
-// What came of writing: all went out, or it did not. Of several writes the last that failed says why.
-#[derive(Clone, Copy)]
-pub enum Sent {
-    Whole,
-    Failed(i32),
-}
-
-impl BitAnd for Sent {
-    type Output = Sent;
-
-    fn bitand(self, rhs: Sent) -> Sent {
-        match rhs {
-            Sent::Whole => self,
-            Sent::Failed(why) => Sent::Failed(why),
-        }
-    }
-}
-
-// Whether all went out.
-pub fn is_whole(sent: Sent) -> bool {
-    match sent {
-        Sent::Whole => true,
-        Sent::Failed(_) => false,
-    }
-}
-
-// Writes all of a text, or stops at the first write that takes nothing or fails, when some of it may be written. Of an empty text it writes nothing.
-fn write_all<W: Write>(to: &mut W, text: &[u8]) -> Sent {
-    let mut done = 0;
-    while done < text.len() {
-        match to.write(&text[done..]) {
-            Ok(n) => {
-                if n == 0 {
-                    return Sent::Failed(DEVICE);
-                }
-                done += n;
-            }
-            Err(e) => return Sent::Failed(number_of(e)),
-        }
-    }
-    Sent::Whole
-}
-
-// Writes a text to standard output.
-pub fn write(rt: &HostRuntime, text: &[u8]) -> Sent {
-    let mut to = rt.stdout();
-    write_all(&mut to, text)
+// Writes all of a text to standard output, or stops where it takes no more, when some of it may be written.
+pub fn write(rt: &HostRuntime, text: &[u8]) -> Result<(), Failure> {
+    rt.stdout().write_all(text)?;
+    Ok(())
 }
 
 // Writes a number to standard output, in digits.
-pub fn write_number(rt: &HostRuntime, n: u64) -> Sent {
-    let text = InlineText::<24>::of(n);
-    write(rt, text.as_str().as_bytes())
+pub fn write_number<N: Display + Drop>(rt: &HostRuntime, n: N) -> Result<(), Failure> {
+    write(rt, InlineText::<24>::of(n).as_str().as_bytes())
 }
 
-// The same in four digits of sixteen, or as many as it has.
-pub fn write_hex(rt: &HostRuntime, n: u64) -> Sent {
-    let text = InlineText::<24>::of(format_args!("{n:04x}"));
-    write(rt, text.as_str().as_bytes())
+// Standard output. Each write is tried, and of those that failed the last says why.
+#[derive(Clone, Copy)]
+pub struct Output<'a> {
+    rt: &'a HostRuntime,
+    sent: Result<(), Failure>,
+}
+
+impl<'a> Output<'a> {
+    pub fn new(rt: &'a HostRuntime) -> Output<'a> {
+        Output { rt, sent: Ok(()) }
+    }
+
+    // Notes why a write failed.
+    pub fn fail(&mut self, why: Failure) {
+        self.sent = Err(why);
+    }
+
+    // Writes a text.
+    pub fn text(&mut self, text: &[u8]) {
+        if let Err(why) = write(self.rt, text) {
+            self.fail(why);
+        }
+    }
+
+    // Writes a number, in digits.
+    pub fn number<N: Display + Drop>(&mut self, n: N) {
+        if let Err(why) = write_number(self.rt, n) {
+            self.fail(why);
+        }
+    }
+
+    // The same in four digits of sixteen, or as many as it has.
+    pub fn hex(&mut self, n: u64) {
+        self.number(format_args!("{n:04x}"));
+    }
+
+    // Whether all went out.
+    pub fn sent(self) -> Result<(), Failure> {
+        self.sent
+    }
+}
+
+// Writes `refused`, a number and a place as one line to standard output.
+pub fn write_refused(rt: &HostRuntime, number: u8, place: usize) -> Result<(), Failure> {
+    let mut out = Output::new(rt);
+    out.text(b"refused ");
+    out.number(number);
+    out.text(b" ");
+    out.number(place);
+    out.text(b"\n");
+    out.sent()
 }
 
 // Writes a text to standard error, as far as it takes it.
 pub fn say(rt: &HostRuntime, text: &[u8]) {
-    let mut to = rt.stderr();
-    write_all(&mut to, text);
+    let _ = rt.stderr().write_all(text);
 }
 
 // Writes a number to standard error, in digits.
-pub fn say_number(rt: &HostRuntime, n: u64) {
-    let text = InlineText::<24>::of(n);
-    say(rt, text.as_str().as_bytes());
+pub fn say_number<N: Display + Drop>(rt: &HostRuntime, n: N) {
+    say(rt, InlineText::<24>::of(n).as_str().as_bytes());
 }
 
-// Writes a line to standard error: what failed, a colon and the system's reason, without the number behind it.
-pub fn say_failed(rt: &HostRuntime, what: &[u8], why: i32) {
-    let reason = InlineText::<256>::of(Error::from_raw_os_error(why));
-    let all = reason.as_str().as_bytes();
+// Writes a line to standard error: the program, what it cannot do to what, and why. A file's name stands behind fixed words, so that no name makes one kind of
+// message look like another.
+pub fn say_failed(rt: &HostRuntime, program: &[u8], verb: &[u8], what: &[u8], why: Failure) {
+    say(rt, program);
+    say(rt, b": cannot ");
+    say(rt, verb);
+    say(rt, b" ");
     say(rt, what);
     say(rt, b": ");
-    say(rt, lines::cut(all, 0, reason_end(all)));
+    say(rt, InlineText::<256>::of(why).as_str().as_bytes());
     say(rt, b"\n");
-}
-
-// Where ` (` stands in a text, else its end.
-fn reason_end(text: &[u8]) -> usize {
-    let mut i = 0;
-    while i < text.len() {
-        if lines::starts_with(&text[i..], b" (os error ") {
-            return i;
-        }
-        i += 1;
-    }
-    i
 }
 
 // How many arguments the program was started with, its own name among them.
 pub fn arg_count(rt: &HostRuntime) -> usize {
     let mut room = [0u8; 1];
-    let mut i = 0;
-    while i < usize::MAX {
-        match rt.arg(i, &mut room) {
-            Ok(_) => {}
-            Err(FillError::TooLong) => {}
-            Err(FillError::NotPresent) => return i,
+    for i in 0..usize::MAX {
+        if let Err(FillError::NotPresent) = rt.arg(i, &mut room) {
+            return i;
         }
-        i += 1;
     }
-    i
+    usize::MAX
 }
 
-// What came of asking for an argument: its length, or why it was not taken.
-#[derive(Clone, Copy)]
-pub enum Word {
-    Is(usize),
-    Failed(i32),
+// Argument i, which is put at the start of a room.
+pub fn take_arg<'a>(rt: &HostRuntime, i: usize, room: &'a mut [u8]) -> Result<&'a [u8], Failure> {
+    let n = rt.arg(i, room)?;
+    Ok(&room[..n])
 }
 
-// Puts argument i at the start of a room, whole.
-pub fn take_arg(rt: &HostRuntime, i: usize, room: &mut [u8]) -> Word {
-    match rt.arg(i, room) {
-        Ok(n) => Word::Is(n),
-        Err(FillError::TooLong) => Word::Failed(TOO_LONG),
-        Err(FillError::NotPresent) => Word::Failed(MISSING),
+// The same, or nothing where it is missing or longer than the room.
+pub fn arg<'a>(rt: &HostRuntime, i: usize, room: &'a mut [u8]) -> &'a [u8] {
+    take_arg(rt, i, room).unwrap_or(b"")
+}
+
+// Whether argument i is a word. One that is missing or very long is none.
+pub fn arg_is(rt: &HostRuntime, i: usize, word: &[u8]) -> bool {
+    arg(rt, i, &mut buffer()) == word
+}
+
+// The number that a word of digits is, or the greatest where that is greater. A word with any other byte, and an empty one, is none.
+pub fn number_in(word: &[u8]) -> Option<usize> {
+    if word.is_empty() {
+        return None;
     }
-}
-
-// The same, and returns its length, or 0 where it is missing or longer than the room.
-pub fn arg(rt: &HostRuntime, i: usize, room: &mut [u8]) -> usize
-    ensures { result ≤ length room.new }
-{
-    match rt.arg(i, room) {
-        Ok(n) => n,
-        Err(_) => 0,
+    let mut n = 0usize;
+    for &b in word {
+        if !b.is_ascii_digit() {
+            return None;
+        }
+        n = n.saturating_mul(10).saturating_add((b - b'0') as usize);
     }
-}
-
-// A file that was opened, or why it was not.
-#[derive(Drop)]
-pub enum Opened {
-    Is(File),
-    Failed(i32),
+    Some(n)
 }
 
 // Opens the file of a name for reading.
-pub fn open(rt: &HostRuntime, name: &[u8]) -> Opened {
-    match str::from_utf8(name) {
-        Ok(path) => match File::open(rt, path) {
-            Ok(file) => Opened::Is(file),
-            Err(e) => Opened::Failed(number_of(e)),
-        },
-        Err(_) => Opened::Failed(NOT_UTF8),
-    }
-}
-
-// Opens the file of a name for writing, and empties it, or makes it where it is missing.
-fn open_anew(rt: &HostRuntime, name: &[u8]) -> Opened {
-    match str::from_utf8(name) {
-        Ok(path) => match File::create(rt, path) {
-            Ok(file) => Opened::Is(file),
-            Err(e) => Opened::Failed(number_of(e)),
-        },
-        Err(_) => Opened::Failed(NOT_UTF8),
-    }
+pub fn open(rt: &HostRuntime, name: &[u8]) -> Result<File, Failure> {
+    Ok(File::open(rt, str::from_utf8(name)?)?)
 }
 
 // Whether the system keeps what was written to a file: an error that no write has shown yet comes out here. What keeps nothing, as a pipe or a device, refuses to be
 // asked, and that is no error.
-fn kept(file: &File) -> Sent {
+fn kept(file: &File) -> Result<(), Failure> {
     match file.sync_all() {
-        Ok(()) => Sent::Whole,
-        Err(e) => {
-            let why = number_of(e);
-            if why == NOT_ASKED {
-                Sent::Whole
-            } else {
-                Sent::Failed(why)
-            }
-        }
+        Err(e) if e.raw_os_error() != Some(NOT_ASKED) => Err(e.into()),
+        _ => Ok(()),
     }
 }
 
-// Writes a text to the file of a name.
-pub fn write_file(rt: &HostRuntime, name: &[u8], text: &[u8]) -> Sent {
-    match open_anew(rt, name) {
-        Opened::Is(file) => {
-            let mut file = file;
-            match write_all(&mut file, text) {
-                Sent::Whole => kept(&file),
-                Sent::Failed(why) => Sent::Failed(why),
-            }
-        }
-        Opened::Failed(why) => Sent::Failed(why),
-    }
+// Writes a text to the file of a name, which is emptied first, or made where it is missing.
+pub fn write_file(rt: &HostRuntime, name: &[u8], text: &[u8]) -> Result<(), Failure> {
+    let mut file = File::create(rt, str::from_utf8(name)?)?;
+    file.write_all(text)?;
+    kept(&file)
 }

@@ -5,26 +5,9 @@ pub const BYTE: u8 = 165;
 
 pub const BLOCK: u32 = 2779096485;
 
-// Whether all bytes are b. It does not stop at the first that is not: so it takes many at a time.
-fn all_are(s: &[u8], b: u8) -> bool {
-    let mut other = 0;
-    let mut i = 0;
-    while i < s.len() {
-        other |= s[i] ^ b;
-        i += 1;
-    }
-    other == 0
-}
-
-// Whether all blocks are b.
-fn all_blocks_are(s: &[u32], b: u32) -> bool {
-    let mut other = 0;
-    let mut i = 0;
-    while i < s.len() {
-        other |= s[i] ^ b;
-        i += 1;
-    }
-    other == 0
+// Whether all elements are `x`. It does not stop at the first that is not: so it takes many at a time.
+fn all_are<T: Copy + PartialEq>(s: &[T], x: T) -> bool {
+    s.iter().fold(true, |all, y| all & (*y == x))
 }
 
 // Whether a buffer is as it was from the byte `n` on.
@@ -32,23 +15,13 @@ pub fn kept_from(s: &[u8], n: usize) -> bool {
     all_are(lines::cut(s, n, s.len()), BYTE)
 }
 
-// Whether a work buffer is as it should be: where the call `ran`, as many zeros as are stated, and what it was else.
-pub fn as_fixed(s: &[u8], stated: usize, ran: bool) -> bool {
-    if ran {
-        return all_are(lines::cut(s, 0, stated), 0) & kept_from(s, stated);
-    }
-    kept_from(s, 0)
-}
-
-// The same of blocks.
-pub fn blocks_as_fixed(s: &[u32], stated: usize, ran: bool) -> bool {
+// Whether a work buffer, which held `fill` before, is as it should be: where the call `ran`, as many zeros as are stated, and what it was else.
+pub fn as_fixed<T: Copy + PartialEq + Default>(s: &[T], fill: T, stated: usize, ran: bool) -> bool {
     if !ran {
-        return all_blocks_are(s, BLOCK);
+        return all_are(s, fill);
     }
-    if s.len() < stated {
-        return all_blocks_are(s, 0);
-    }
-    all_blocks_are(&s[..stated], 0) & all_blocks_are(&s[stated..], BLOCK)
+    let (used, rest) = s.split_at(stated.min(s.len()));
+    all_are(used, T::default()) & all_are(rest, fill)
 }
 
 // What is lent of a buffer: all, or one element less than is stated where it is to be short.

@@ -78,12 +78,12 @@ impl Memory {
 
     // Whether the work buffers are as they should be.
     fn is_fixed(&self, ran: bool) -> bool {
-        lent::as_fixed(&self.a, BYTES, ran)
-            & lent::as_fixed(&self.b, BYTES, ran)
-            & lent::as_fixed(&self.c, BYTES, ran)
-            & lent::as_fixed(&self.d, BYTES, ran)
-            & lent::as_fixed(&self.e, BYTES, ran)
-            & lent::blocks_as_fixed(&self.u, BLOCKS, ran)
+        lent::as_fixed(&self.a, lent::BYTE, BYTES, ran)
+            & lent::as_fixed(&self.b, lent::BYTE, BYTES, ran)
+            & lent::as_fixed(&self.c, lent::BYTE, BYTES, ran)
+            & lent::as_fixed(&self.d, lent::BYTE, BYTES, ran)
+            & lent::as_fixed(&self.e, lent::BYTE, BYTES, ran)
+            & lent::as_fixed(&self.u, lent::BLOCK, BLOCKS, ran)
     }
 }
 

@@ -1,6 +1,6 @@
 // Requests for whole texts, and answers to them.
 use input::host;
-use input::wire::{four, read_bytes, read_full};
+use input::wire::{bytes_of, four, read_bytes, read_full};
 use std::io::Stdin;
 
 // A request: the pass, the mode, which work buffer is short, the rooms for the result and for the records, and how much of the text there is.
@@ -20,20 +20,20 @@ pub fn read_request(from: &mut Stdin, text: &mut [u8]) -> Option<Request> {
     if read_full(from, &mut h) != h.len() {
         return None;
     }
-    let n = four(h[11], h[12], h[13], h[14]);
+    let n = four([h[11], h[12], h[13], h[14]]);
     read_bytes(from, n, text).then_some(Request {
         pass: h[0],
         mode: h[1],
         short: h[2],
-        room: four(h[3], h[4], h[5], h[6]),
-        records: four(h[7], h[8], h[9], h[10]),
+        room: four([h[3], h[4], h[5], h[6]]),
+        records: four([h[7], h[8], h[9], h[10]]),
         length: n,
     })
 }
 
 // Writes bytes behind a head, and returns whether all went out.
 fn write_behind(rt: &HostRuntime, head: &[u8], bytes: &[u8]) -> bool {
-    host::is_whole(host::write(rt, head)) && host::is_whole(host::write(rt, bytes))
+    host::write(rt, head).is_ok() && host::write(rt, bytes).is_ok()
 }
 
 // Writes an answer, and returns whether it went out.
@@ -41,12 +41,12 @@ pub fn write_answer(rt: &HostRuntime, number: u8, memory: bool, place: usize, re
     let mut head = [0; 10];
     head[0] = number;
     head[1] = u8::from(memory);
-    head[2..6].copy_from_slice(&res.len().to_le_bytes()[..4]);
-    head[6..].copy_from_slice(&place.to_le_bytes()[..4]);
+    head[2..6].copy_from_slice(&bytes_of(res.len()));
+    head[6..].copy_from_slice(&bytes_of(place));
     write_behind(rt, &head, res)
 }
 
 // Writes the buffer of records, its length in front, and returns whether it went out.
 pub fn write_records(rt: &HostRuntime, records: &[u8]) -> bool {
-    write_behind(rt, &records.len().to_le_bytes()[..4], records)
+    write_behind(rt, &bytes_of(records.len()), records)
 }

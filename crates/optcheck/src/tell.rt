@@ -1,20 +1,6 @@
 // What the program says on standard error: for a refusal its number, what it means and where, each on a line. A file's name stands behind
 // fixed words, so that no name makes one kind of message look like another.
-use input::host;
-
-fn say(rt: &HostRuntime, text: &[u8]) {
-    host::say(rt, text);
-}
-
-fn say_number(rt: &HostRuntime, n: usize) {
-    host::say_number(rt, n as u64);
-}
-
-// Says what cannot be done to what, and the system's reason.
-pub fn fail(rt: &HostRuntime, verb: &[u8], name: &[u8], why: i32) {
-    say(rt, b"optcheck: cannot ");
-    say(rt, verb);
-    host::say_failed(rt, name, why);
+use input::host::{say, say_number};
 }
 
 // The number, from 1, of the line at a place.
@@ -38,7 +24,7 @@ fn say_left_out(rt: &HostRuntime, raw: &[u8], at: usize, p: &[u8]) {
     match crate::left::left_out(raw, at, p) {
         Some(q) => {
             say(rt, b"optcheck: r");
-            host::say_number(rt, q.0);
+            say_number(rt, q.0);
             say(rt, b" is left out, and raw line ");
             say_number(rt, line_number(raw, crate::left::use_at(raw, at, q)));
             say(rt, b" uses it\n");
@@ -101,7 +87,7 @@ fn explain_listing(rt: &HostRuntime, number: u8, place: usize) {
 // Tells a person of a refusal.
 pub fn explain(rt: &HostRuntime, number: u8, place: usize, raw: &[u8], other: &[u8]) {
     say(rt, b"optcheck: refused ");
-    say_number(rt, number as usize);
+    say_number(rt, number);
     say(rt, b": ");
     if number == 7 {
         explain_astray(rt, place, raw, other);

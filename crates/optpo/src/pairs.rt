@@ -1,6 +1,5 @@
 // The entries of a PO file that was accepted, a line each.
-use input::host;
-use input::host::Sent;
+use input::host::{Failure, Output};
 
 // How long the head of a file is, its three lines with their LFs.
 const HEAD: usize = 63;
@@ -24,38 +23,38 @@ pub fn behind(text: &[u8], from: usize, n: usize) -> usize {
 }
 
 // Writes what stands between the quotes of the line at a place, behind a word with its quote.
-fn put_quoted(rt: &HostRuntime, file: &[u8], at: usize, word: usize) -> Sent {
+fn put_quoted(out: &mut Output, file: &[u8], at: usize, word: usize) {
     let l = lines::cut(file, at, lines::find_byte(file, at, 10));
-    if l.len() == 0 {
-        return Sent::Failed(EMPTY);
+    if l.is_empty() {
+        out.fail(Failure::System(EMPTY));
+    } else {
+        out.text(lines::cut(l, word, l.len() - 1));
     }
-    host::write(rt, lines::cut(l, word, l.len() - 1))
 }
 
 // Writes the entry at a place: its msgid, a TAB and its msgstr.
-fn put_pair(rt: &HostRuntime, file: &[u8], at: usize) -> Sent {
+fn put_pair(out: &mut Output, file: &[u8], at: usize) {
     let id = behind(file, at, 2);
     let translated = behind(file, id, 1);
-    put_quoted(rt, file, id, ID_WORD)
-        & host::write(rt, b"\t")
-        & put_quoted(rt, file, translated, STR_WORD)
-        & host::write(rt, b"\n")
+    put_quoted(out, file, id, ID_WORD);
+    out.text(b"\t");
+    put_quoted(out, file, translated, STR_WORD);
+    out.text(b"\n");
 }
 
 // Writes the entries of a file, and returns whether they went out.
-pub fn put_pairs(rt: &HostRuntime, file: &[u8]) -> Sent {
+pub fn put_pairs(rt: &HostRuntime, file: &[u8]) -> Result<(), Failure> {
+    let mut out = Output::new(rt);
     let mut at = HEAD;
     let mut left = file.len();
     while left > 0 {
         if file.len() <= at {
-            return Sent::Whole;
+            break;
         }
-        match put_pair(rt, file, at) {
-            Sent::Whole => {}
-            Sent::Failed(why) => return Sent::Failed(why),
-        }
+        put_pair(&mut out, file, at);
+        out.sent()?;
         at = behind(file, at, 4);
         left -= 1;
     }
-    Sent::Whole
+    Ok(())
 }

@@ -6,10 +6,8 @@
 
 mod tell;
 
-ghost use Rattle.std.specs.Prelude.{◌≡◌, ◌≤◌, length};
-
 use input::host;
-use input::host::Sent;
+use input::host::Failure;
 use origins::Form;
 use reader::Reply;
 
@@ -17,47 +15,23 @@ use reader::Reply;
 const MOST: usize = 1100000;
 
 // Room for what is read: one byte more than is taken, so that a longer file is seen.
-fn file_room() -> [u8; 1100001]
-    ensures { 1100001 ≡ length result }
-{
-    [0; 1100001]
-}
+const ROOM: usize = MOST + 1;
 
-// Room for what is written: no file that is taken is longer in either form.
-fn turned_room() -> [u8; 1100000]
-    ensures { 1100000 ≡ length result }
-{
-    [0; 1100000]
-}
-
-// Writes `refused`, a number and a place as one line, and returns whether it went out.
-fn put_refused(rt: &HostRuntime, number: u8, place: usize) -> Sent {
-    host::write(rt, b"refused ")
-        & host::write_number(rt, number as u64)
-        & host::write(rt, b" ")
-        & host::write_number(rt, place as u64)
-        & host::write(rt, b"\n")
-}
-
-// Writes what came of a file to standard output, and returns whether it went out.
-fn put_answer(rt: &HostRuntime, answer: Reply, out: &[u8]) -> Sent {
-    let number = reader::number_of(answer);
-    if number == 0 {
-        return host::write(rt, lines::cut(out, 0, reader::count_of(answer)));
+// Writes what came of a file to standard output.
+fn write_answer(rt: &HostRuntime, answer: Reply, out: &[u8]) -> Result<(), Failure> {
+    match reader::number_of(answer) {
+        0 => host::write(rt, lines::cut(out, 0, reader::count_of(answer))),
+        number => host::write_refused(rt, number, reader::place_of(answer)),
     }
-    put_refused(rt, number, reader::place_of(answer))
 }
 
-// Writes a file in the form `g`, or why it is not written.
+// Writes a file in the form `g`, or why it is not written. No file that is taken is longer in either form.
 fn answer_to(rt: &HostRuntime, g: Form, file: &[u8]) {
-    let mut out = turned_room();
+    let mut out = host::room::<u8, MOST>();
     let answer = reader::turn(reader::form_of(file), g, file, &mut out);
-    match put_answer(rt, answer, &out) {
-        Sent::Whole => {}
-        Sent::Failed(why) => {
-            host::say_failed(rt, b"optrecords: cannot write standard output", why);
-            return;
-        }
+    if let Err(why) = write_answer(rt, answer, &out) {
+        host::say_failed(rt, b"optrecords", b"write", b"standard output", why);
+        return;
     }
     let number = reader::number_of(answer);
     if number != 0 {
@@ -67,56 +41,27 @@ fn answer_to(rt: &HostRuntime, g: Form, file: &[u8]) {
 
 // Reads standard input whole, and writes it in the form `g`. Of a file that did not come whole nothing is written.
 fn take_input(rt: &HostRuntime, g: Form) {
-    let mut file = file_room();
-    let mut from = rt.stdin();
-    match input::read_input(&mut from, &mut file) {
-        input::Got::Whole(n) => {
-            if n > MOST {
-                host::say(
-                    rt,
-                    b"optrecords: cannot take more than 1100000 bytes of standard input\n",
-                );
-                return;
-            }
-            answer_to(rt, g, lines::cut(&file, 0, n));
-        }
-        input::Got::Failed(why) => {
-            host::say_failed(rt, b"optrecords: cannot read standard input", why);
-        }
+    let mut room = host::room::<u8, ROOM>();
+    match input::read_standard(rt, b"optrecords", &mut room) {
+        Some(file) if file.len() <= MOST => answer_to(rt, g, file),
+        Some(_) => host::say(
+            rt,
+            b"optrecords: cannot take more than 1100000 bytes of standard input\n",
+        ),
+        None => {}
     }
-}
-
-// Whether an argument is a word. One that is missing or very long is none.
-fn is_word(rt: &HostRuntime, at: usize, word: &[u8]) -> bool {
-    let mut room = host::buffer();
-    let n = host::arg(rt, at, &mut room);
-    lines::same(&room[..n], word)
-}
-
-// Takes the argument at a place, where it is the last, for the form to write.
-fn take_form(rt: &HostRuntime, at: usize)
-    requires { at ≤ 2 }
-{
-    let last = host::arg_count(rt) == at + 1;
-    if last & is_word(rt, at, b"OL") {
-        take_input(rt, Form::Ol);
-        return;
-    }
-    if last & is_word(rt, at, b"OM") {
-        take_input(rt, Form::Om);
-        return;
-    }
-    host::say(
-        rt,
-        b"optrecords: give one argument, the form to write: OL or OM\n",
-    );
 }
 
 fn main(rt: HostRuntime) {
     let rt = &rt;
-    if is_word(rt, 1, b"--") {
-        take_form(rt, 2);
-        return;
+    let at = if host::arg_is(rt, 1, b"--") { 2 } else { 1 };
+    let is_last = host::arg_count(rt) == at + 1;
+    match host::arg(rt, at, &mut host::buffer()) {
+        b"OL" if is_last => take_input(rt, Form::Ol),
+        b"OM" if is_last => take_input(rt, Form::Om),
+        _ => host::say(
+            rt,
+            b"optrecords: give one argument, the form to write: OL or OM\n",
+        ),
     }
-    take_form(rt, 1);
 }

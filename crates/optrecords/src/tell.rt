@@ -1,13 +1,5 @@
 // What the program says on standard error of a refusal: its number, what it means, where it is and what to do, each on a line.
-use input::host;
-
-fn say(rt: &HostRuntime, text: &[u8]) {
-    host::say(rt, text);
-}
-
-fn say_number(rt: &HostRuntime, n: usize) {
-    host::say_number(rt, n as u64);
-}
+use input::host::{say, say_number};
 
 // What a refusal means.
 fn meaning(rt: &HostRuntime, number: u8) {
@@ -58,7 +50,7 @@ fn advice(rt: &HostRuntime, number: u8) {
 // Says what a refusal means.
 pub fn explain(rt: &HostRuntime, number: u8, place: usize) {
     say(rt, b"optrecords: refused ");
-    say_number(rt, number as usize);
+    say_number(rt, number);
     say(rt, b": ");
     meaning(rt, number);
     say(rt, b"optrecords: at record ");

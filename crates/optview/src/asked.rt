@@ -40,9 +40,7 @@ enum Word {
 
 // What an argument is. One that is missing or very long is no option.
 fn word_at(rt: &HostRuntime, at: usize) -> Word {
-    let mut room = host::buffer();
-    let n = host::arg(rt, at, &mut room);
-    match &room[..n] {
+    match host::arg(rt, at, &mut host::buffer()) {
         b"--text" => Word::Text,
         b"--strict" => Word::Strict,
         b"--joined" => Word::Joined,

@@ -1,10 +1,9 @@
-// Text as a page shows it: what has a meaning in HTML is written as a character of it, and what cannot be seen or would turn the writing round as its number. Each
-// function returns whether it went out.
+// Text as a page shows it: what has a meaning in HTML is written as a character of it, and what cannot be seen or would turn the writing round as its number.
 ghost use Rattle.std.specs.Prelude.{◌≡◌, ◌<◌, ◌≤◌, cond, not, ◌&&◌, eqb, get_or};
 ghost use Rattle.optview.specs.Inner.Shown.{unseen_one, unseen_narrow, unseen_wide, unseen_len, is_sign, code_of};
 
 use crate::put;
-use input::host::Sent;
+use input::host::Output;
 
 // Whether a byte is a control, but a TAB.
 fn unseen_one(a: u8) -> bool
@@ -74,17 +73,19 @@ fn code_of(s: &[u8], n: usize) -> u64
 }
 
 // Writes a character by its number.
-fn put_code(rt: &HostRuntime, n: u64) -> Sent {
-    put::bytes(rt, b"<u>U+") & put::hex(rt, n) & put::bytes(rt, b"</u>")
+fn put_code(out: &mut Output, n: u64) {
+    out.text(b"<u>U+");
+    out.hex(n);
+    out.text(b"</u>");
 }
 
 // Writes a byte that has a meaning in HTML.
-fn put_sign(rt: &HostRuntime, b: u8) -> Sent {
+fn put_sign(out: &mut Output, b: u8) {
     match b {
-        b'&' => put::bytes(rt, b"&amp;"),
-        b'<' => put::bytes(rt, b"&lt;"),
-        b'>' => put::bytes(rt, b"&gt;"),
-        _ => put::bytes(rt, b"&quot;"),
+        b'&' => out.text(b"&amp;"),
+        b'<' => out.text(b"&lt;"),
+        b'>' => out.text(b"&gt;"),
+        _ => out.text(b"&quot;"),
     }
 }
 
@@ -109,12 +110,12 @@ fn seen_len(s: &[u8]) -> usize {
 }
 
 // Writes the first character, which is not written as it is.
-fn put_other(rt: &HostRuntime, s: &[u8]) -> Sent {
+fn put_other(out: &mut Output, s: &[u8]) {
     let n = unseen_len(s);
     if n == 0 {
-        return put_sign(rt, lines::byte_at(s, 0));
+        return put_sign(out, lines::byte_at(s, 0));
     }
-    put_code(rt, code_of(s, n))
+    put_code(out, code_of(s, n));
 }
 
 // How many bytes the first character has that is not written as it is.
@@ -129,22 +130,20 @@ fn other_len(s: &[u8]) -> usize
 }
 
 // Writes a text.
-pub fn put_text(rt: &HostRuntime, s: &[u8]) -> Sent {
-    let mut went = Sent::Whole;
+pub fn put_text(out: &mut Output, s: &[u8]) {
     let mut i = 0;
     // Kept: the place moves by what is written as it is, or by the bytes of a character.
     while i < s.len() {
         let n = seen_len(&s[i..]);
         if 0 < n {
             let e = past(i, n, s.len());
-            went = went & put::bytes(rt, &s[i..e]);
+            out.text(&s[i..e]);
             i = e;
         } else {
-            went = went & put_other(rt, &s[i..]);
+            put_other(out, &s[i..]);
             i = past(i, other_len(&s[i..]), s.len());
         }
     }
-    went
 }
 
 // The place n places behind i, but not behind the end; at least the next one.

@@ -17,11 +17,10 @@ mod why;
 
 use asked::Options;
 use input::host;
-use input::host::{Opened, Sent, Word};
+use input::host::Output;
 use listing::Listing;
 use origins::Form;
 use stages::Noted;
-use std::io::Read;
 
 // The most lines of a listing.
 const LINES: usize = 1024;
@@ -78,57 +77,14 @@ fn show_linked(rt: &HostRuntime, options: Options, listing: Listing<'_>, name: &
         next: &next,
         ..listing
     };
-    let sent = if options.text {
-        plain::put_both(rt, linked)
+    let mut out = Output::new(rt);
+    if options.text {
+        plain::put_both(&mut out, linked);
     } else {
-        page::put_page(rt, linked, name)
-    };
-    match sent {
-        Sent::Whole => {}
-        Sent::Failed(why) => tell::cannot_write(rt, why),
+        page::put_page(&mut out, linked, name);
     }
-}
-
-// Shows what a reader delivers. Of a listing that did not come whole nothing is shown.
-fn show_input<R: Read>(rt: &HostRuntime, options: Options, from: &mut R, name: &[u8]) {
-    let mut text = [0; TEXT];
-    match input::read_input(from, &mut text) {
-        input::Got::Whole(n) => show(rt, options, lines::cut(&text, 0, n), name),
-        input::Got::Failed(why) => tell::fail(rt, b"read ", name, why),
-    }
-}
-
-// Shows standard input.
-fn show_standard(rt: &HostRuntime, options: Options) {
-    let mut from = rt.stdin();
-    show_input(rt, options, &mut from, b"standard input");
-}
-
-// Shows the file of a name.
-fn show_file(rt: &HostRuntime, options: Options, name: &[u8]) {
-    if lines::same(name, b"-") {
-        show_standard(rt, options);
-        return;
-    }
-    match host::open(rt, name) {
-        Opened::Is(file) => {
-            let mut file = file;
-            show_input(rt, options, &mut file, name);
-        }
-        Opened::Failed(why) => tell::fail(rt, b"open ", name, why),
-    }
-}
-
-// Shows what argument `at` names, standard input where there is none.
-fn show_named(rt: &HostRuntime, options: Options, at: usize) {
-    if host::arg_count(rt) <= at {
-        show_standard(rt, options);
-        return;
-    }
-    let mut name = host::buffer();
-    match host::take_arg(rt, at, &mut name) {
-        Word::Is(n) => show_file(rt, options, lines::cut(&name, 0, n)),
-        Word::Failed(why) => host::say_failed(rt, b"optview: cannot take the file's name", why),
+    if let Err(why) = out.sent() {
+        tell::cannot_write(rt, why);
     }
 }
 
@@ -139,5 +95,11 @@ fn main(rt: HostRuntime) {
         host::say(rt, b"optview: more than one file is named\n");
         return;
     }
-    show_named(rt, asked.options, asked.rest);
+    let mut name = host::buffer();
+    let mut room = [0; TEXT];
+    if let Some((name, text)) = input::take_listing(
+        rt, b"optview", asked.rest, &mut name, &mut room,
+    ) {
+        show(rt, asked.options, text, name);
+    }
 }

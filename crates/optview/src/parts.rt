@@ -1,6 +1,5 @@
-// The parts of the page that are the same for every listing: everything that it needs is in it. Each function returns whether it went out.
-use crate::put;
-use input::host::Sent;
+// The parts of the page that are the same for every listing: everything that it needs is in it.
+use input::host::Output;
 
 // What the page is.
 const META: &[u8] = b"<!DOCTYPE html>
@@ -45,8 +44,10 @@ li.on { background: var(--mark); } li.pin { background: var(--pin); }
 ";
 
 // What stands above the name of the listing.
-pub fn put_head(rt: &HostRuntime) -> Sent {
-    put::bytes(rt, META) & put::bytes(rt, LOOKS) & put::bytes(rt, FATES)
+pub fn put_head(out: &mut Output) {
+    out.text(META);
+    out.text(LOOKS);
+    out.text(FATES);
 }
 
 // What stands between that name and the raw lines.
@@ -120,6 +121,7 @@ const MOVES: &[u8] = b"    if (pinned) show(pinned);
 ";
 
 // What stands below the tidy lines.
-pub fn put_tail(rt: &HostRuntime) -> Sent {
-    put::bytes(rt, MARKS) & put::bytes(rt, MOVES)
+pub fn put_tail(out: &mut Output) {
+    out.text(MARKS);
+    out.text(MOVES);
 }

@@ -1,26 +1,10 @@
 // What the program says on standard error. A file's name stands behind fixed words, so that no name makes one kind of message look like another.
-use crate::put;
 use input::host;
-use input::host::Sent;
-
-fn say(rt: &HostRuntime, text: &[u8]) {
-    host::say(rt, text);
-}
-
-fn say_number(rt: &HostRuntime, n: usize) {
-    host::say_number(rt, n as u64);
-}
-
-// Says what cannot be done to what, and the system's reason.
-pub fn fail(rt: &HostRuntime, verb: &[u8], name: &[u8], why: i32) {
-    say(rt, b"optview: cannot ");
-    say(rt, verb);
-    host::say_failed(rt, name, why);
-}
+use input::host::{Failure, say, say_number};
 
 // Says that standard output did not take everything.
-pub fn cannot_write(rt: &HostRuntime, why: i32) {
-    host::say_failed(rt, b"optview: cannot write standard output", why);
+pub fn cannot_write(rt: &HostRuntime, why: Failure) {
+    host::say_failed(rt, b"optview", b"write", b"standard output", why);
 }
 
 // Says that the records of this program's own making are not right.
@@ -29,7 +13,7 @@ pub fn bad_records(rt: &HostRuntime, number: u8, place: usize) {
         rt,
         b"optview: the records are refused, which is a fault of this program: ",
     );
-    say_number(rt, number as usize);
+    say_number(rt, number);
     say(rt, b" ");
     say_number(rt, place);
     say(rt, b"\n");
@@ -38,7 +22,7 @@ pub fn bad_records(rt: &HostRuntime, number: u8, place: usize) {
 // Tells a person of a refusal.
 fn explain(rt: &HostRuntime, number: u8, place: usize, name: &[u8]) {
     say(rt, b"optview: refused ");
-    say_number(rt, number as usize);
+    say_number(rt, number);
     say(rt, b" ");
     say_number(rt, place);
     say(rt, b" in ");
@@ -51,13 +35,8 @@ fn explain(rt: &HostRuntime, number: u8, place: usize, name: &[u8]) {
 
 // Refuses, for a script and for a person.
 pub fn refused(rt: &HostRuntime, number: u8, place: usize, name: &[u8]) {
-    let sent = put::bytes(rt, b"refused ")
-        & put::number(rt, number as usize)
-        & put::bytes(rt, b" ")
-        & put::number(rt, place)
-        & put::bytes(rt, b"\n");
-    match sent {
-        Sent::Whole => explain(rt, number, place, name),
-        Sent::Failed(why) => cannot_write(rt, why),
+    match host::write_refused(rt, number, place) {
+        Ok(()) => explain(rt, number, place, name),
+        Err(why) => cannot_write(rt, why),
     }
 }

@@ -1,39 +1,14 @@
-// What the program writes to standard output. Each function returns whether it went out.
+// What the program writes to standard output.
 use input::host;
-use input::host::Sent;
+use input::host::{Failure, Output};
 
-// Writes `refused`, a number and a place as one line.
-pub fn put_refused(rt: &HostRuntime, number: u8, place: usize) -> Sent {
-    host::write(rt, b"refused ")
-        & host::write_number(rt, number as u64)
-        & host::write(rt, b" ")
-        & host::write_number(rt, place as u64)
-        & host::write(rt, b"\n")
-}
-
-// The number at a place, or 0 past the end.
-fn number_at(numbers: &[usize], i: usize) -> usize {
-    if i < numbers.len() {
-        return numbers[i];
+// Writes numbers, a line each.
+pub fn put_numbers(rt: &HostRuntime, numbers: &[usize]) -> Result<(), Failure> {
+    for &n in numbers {
+        host::write_number(rt, n)?;
+        host::write(rt, b"\n")?;
     }
-    0
-}
-
-// Writes the first `n` numbers, a line each.
-pub fn put_numbers(rt: &HostRuntime, numbers: &[usize], n: usize) -> Sent {
-    let mut i = 0;
-    while i < n {
-        match host::write_number(rt, number_at(numbers, i) as u64) {
-            Sent::Whole => {}
-            Sent::Failed(why) => return Sent::Failed(why),
-        }
-        match host::write(rt, b"\n") {
-            Sent::Whole => {}
-            Sent::Failed(why) => return Sent::Failed(why),
-        }
-        i += 1;
-    }
-    Sent::Whole
+    Ok(())
 }
 
 // The line at a place, without a CR before its LF.
@@ -51,34 +26,32 @@ fn line_at(raw: &[u8], at: usize) -> &[u8] {
 }
 
 // A number from 0 as it is counted from 1.
-fn from_one(n: usize) -> usize {
-    if n < usize::MAX { n + 1 } else { n }
-}
-
 // Writes a line of a raw listing as an editor reads it: the name, the number from 1, the text.
-fn put_line(rt: &HostRuntime, name: &[u8], number: usize, line: &[u8]) -> Sent {
-    host::write(rt, name)
-        & host::write(rt, b":")
-        & host::write_number(rt, from_one(number) as u64)
-        & host::write(rt, b":")
-        & host::write(rt, line)
-        & host::write(rt, b"\n")
+fn put_line(rt: &HostRuntime, name: &[u8], number: usize, line: &[u8]) -> Result<(), Failure> {
+    let mut out = Output::new(rt);
+    out.text(name);
+    out.text(b":");
+    out.number(number.saturating_add(1));
+    out.text(b":");
+    out.text(line);
+    out.text(b"\n");
+    out.sent()
 }
 
-// Writes the raw lines of the first `n` numbers, which ascend.
-pub fn put_lines(rt: &HostRuntime, numbers: &[usize], n: usize, raw: &[u8], name: &[u8]) -> Sent {
-    let mut i = 0;
+// Writes the raw lines of numbers, which ascend.
+pub fn put_lines(
+    rt: &HostRuntime,
+    numbers: &[usize],
+    raw: &[u8],
+    name: &[u8],
+) -> Result<(), Failure> {
     let mut at = 0;
     let mut line = 0;
-    while i < n {
-        let next = number_at(numbers, i);
+    for &next in numbers {
         at = input::behind(raw, at, b'\n', next.saturating_sub(line));
-        line = next;
-        match put_line(rt, name, next, line_at(raw, at)) {
-            Sent::Whole => {}
-            Sent::Failed(why) => return Sent::Failed(why),
         }
-        i += 1;
+        line = next;
+        put_line(rt, name, next, line_at(raw, at))?;
     }
-    Sent::Whole
+    Ok(())
 }

@@ -1,20 +1,16 @@
 // What the program says on standard error: for a refusal its number, what it means, where it is and what to do, each on a line.
 // A file's name stands behind fixed words, so that no name makes one kind of message look like another.
 use input::host;
-
-fn say(rt: &HostRuntime, text: &[u8]) {
-    host::say(rt, text);
-}
-
-fn say_number(rt: &HostRuntime, n: usize) {
-    host::say_number(rt, n as u64);
-}
+use input::host::{Failure, say, say_number};
 
 // Says what cannot be done to what, and the system's reason.
-pub fn fail(rt: &HostRuntime, verb: &[u8], name: &[u8], why: i32) {
-    say(rt, b"optwhere: cannot ");
-    say(rt, verb);
-    host::say_failed(rt, name, why);
+pub fn fail(rt: &HostRuntime, verb: &[u8], what: &[u8], why: Failure) {
+    host::say_failed(rt, b"optwhere", verb, what, why);
+}
+
+// Says that standard output did not take everything.
+pub fn cannot_write(rt: &HostRuntime, why: Failure) {
+    fail(rt, b"write", b"standard output", why);
 }
 
 // Says that a file is longer than is taken.
@@ -39,10 +35,8 @@ pub fn other_listing(rt: &HostRuntime, name: &[u8], there: usize, records: usize
 
 // Says that an argument is not the number of a line.
 pub fn no_number(rt: &HostRuntime, at: usize) {
-    let mut word = host::buffer();
-    let n = host::arg(rt, at, &mut word);
     say(rt, b"optwhere: not the number of a line: ");
-    say(rt, &word[..n]);
+    say(rt, host::arg(rt, at, &mut host::buffer()));
     say(rt, b"\n");
 }
 
@@ -67,7 +61,7 @@ fn meaning(rt: &HostRuntime, number: u8) {
 // Says what a refusal means.
 pub fn explain(rt: &HostRuntime, number: u8, place: usize) {
     say(rt, b"optwhere: refused ");
-    say_number(rt, number as usize);
+    say_number(rt, number);
     say(rt, b": ");
     meaning(rt, number);
     say(rt, b"optwhere: at record ");

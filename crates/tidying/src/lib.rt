@@ -4,198 +4,126 @@
 pub mod asked;
 pub mod tell;
 
-ghost use Rattle.std.specs.Prelude.{◌≡◌, ◌≤◌, length};
-
 use asked::Task;
 use input::host;
-use input::host::{Opened, Sent, Word};
+use input::host::Failure;
 use limits::Answer;
-use std::fs::File;
+use origins::Form;
 
-// A work buffer of bytes of the first pair.
-fn work_room() -> [u8; 32769]
-    ensures { 32769 ≡ length result }
-{
-    [0; 32769]
-}
+// The sizes of the work buffers of the first pair.
+const BYTES: usize = 32769;
 
-// A work buffer of blocks.
-fn block_room() -> [u32; 16384]
-    ensures { 16384 ≡ length result }
-{
-    [0; 16384]
-}
+const BLOCKS: usize = 16384;
 
-// Tidies a text by the first pair, with the work buffers that it needs.
-fn tidy(mode: usize, text: &[u8], out: &mut [u8], orig: &mut [u8]) -> Answer {
-    let mut a = work_room();
-    let mut b = work_room();
-    let mut c = work_room();
-    let mut d = work_room();
-    let mut e = work_room();
-    let mut u = block_room();
-    opt::optimize(
-        mode, text, &mut a, &mut b, &mut c, &mut d, &mut e, &mut u, out, orig,
-    )
-}
-
-// Runs one pass over a text, with the same work buffers.
-fn run_one(pass: usize, mode: usize, text: &[u8], out: &mut [u8], orig: &mut [u8]) -> Answer {
-    let mut a = work_room();
-    let mut b = work_room();
-    let mut c = work_room();
-    let mut d = work_room();
-    let mut e = work_room();
-    let mut u = block_room();
-    opt::run_pass(
-        pass, mode, text, &mut a, &mut b, &mut c, &mut d, &mut e, &mut u, out, orig,
-    )
-}
-
-// Does to a text what is asked, by the first pair.
+// Does to a text what is asked, by the first pair, with the work buffers that it needs.
 pub fn answer_small(task: Task, text: &[u8], out: &mut [u8], orig: &mut [u8]) -> Answer {
-    let mode = asked::mode_of(task);
-    if task.one {
-        return run_one(task.pass, mode, text, out, orig);
-    }
-    tidy(mode, text, out, orig)
-}
-
-// Writes `refused`, a number and a place as one line, and returns whether it went out.
-fn put_refused(rt: &HostRuntime, number: u8, place: usize) -> Sent {
-    host::write(rt, b"refused ")
-        & host::write_number(rt, number as u64)
-        & host::write(rt, b" ")
-        & host::write_number(rt, place as u64)
-        & host::write(rt, b"\n")
-}
-
-// Writes what came of a text to standard output, and returns whether it went out.
-fn put_answer(rt: &HostRuntime, answer: Answer, out: &[u8]) -> Sent {
-    let number = limits::number_of(answer);
-    if number == 0 {
-        return host::write(rt, lines::cut(out, 0, limits::length_of(answer)));
-    }
-    put_refused(rt, number, limits::place_of(answer))
-}
-
-// Writes records to the file of a name, and says why where they did not go there whole.
-fn write_records(rt: &HostRuntime, program: &[u8], name: &[u8], records: &[u8]) {
-    match host::write_file(rt, name, records) {
-        Sent::Whole => {}
-        Sent::Failed(why) => tell::fail_with(rt, program, b"write ", name, why),
+    let mut a = host::room::<u8, BYTES>();
+    let mut b = host::room::<u8, BYTES>();
+    let mut c = host::room::<u8, BYTES>();
+    let mut d = host::room::<u8, BYTES>();
+    let mut e = host::room::<u8, BYTES>();
+    let mut u = host::room::<u32, BLOCKS>();
+    let mode = task.mode();
+    match task.pass {
+        Some(pass) => opt::run_pass(
+            pass, mode, text, &mut a, &mut b, &mut c, &mut d, &mut e, &mut u, out, orig,
+        ),
+        None => opt::optimize(
+            mode, text, &mut a, &mut b, &mut c, &mut d, &mut e, &mut u, out, orig,
+        ),
     }
 }
 
-// Writes records to the file that argument `at` names, unless it is 0.
+// Writes what came of a text to standard output.
+fn write_answer(rt: &HostRuntime, answer: Answer, out: &[u8]) -> Result<(), Failure> {
+    match limits::number_of(answer) {
+        0 => host::write(rt, lines::cut(out, 0, limits::length_of(answer))),
+        number => host::write_refused(rt, number, limits::place_of(answer)),
+    }
+}
+
+// Writes records to the file that argument `at` names, and says why where they did not go there whole.
 fn put_records(rt: &HostRuntime, program: &[u8], at: usize, records: &[u8]) {
-    if at == 0 {
-        return;
-    }
-    let mut name = host::buffer();
-    match host::take_arg(rt, at, &mut name) {
-        Word::Is(n) => write_records(rt, program, lines::cut(&name, 0, n), records),
-        Word::Failed(why) => {
-            tell::fail(
-                rt,
-                program,
-                b"take the name of the file for the records",
-                why,
-            );
+    match host::take_arg(rt, at, &mut host::buffer()) {
+        Ok(name) => {
+            if let Err(why) = host::write_file(rt, name, records) {
+                host::say_failed(rt, program, b"write", name, why);
+            }
+        }
+        Err(why) => {
+            let name = b"the name of the file for the records";
+            host::say_failed(rt, program, b"take", name, why);
         }
     }
 }
 
-// Says what came of a text. A refusal is told on standard error too: a tidy text may read like one, and a person wants to know more.
-pub fn report(
-    rt: &HostRuntime,
-    program: &[u8],
-    task: Task,
-    answer: Answer,
-    text: &[u8],
-    name: &[u8],
-    out: &[u8],
-    records: &[u8],
-) {
-    match put_answer(rt, answer, out) {
-        Sent::Whole => {}
-        Sent::Failed(why) => {
-            tell::fail(rt, program, b"write standard output", why);
-            return;
-        }
-    }
-    let number = limits::number_of(answer);
-    if number != 0 {
-        tell::explain(rt, program, number, limits::place_of(answer), text, name);
-        return;
-    }
-    put_records(rt, program, task.records, records);
-}
-
-// How many bytes the records of `n` lines are, in a form: a text that is taken has at most 100,000.
-pub fn records_size(form: origins::Form, n: usize) -> usize {
+// How many bytes the records of a text are, in a form: one that is taken has at most 100,000 lines.
+fn records_size(form: Form, text: &[u8]) -> usize {
+    let n = lines::count_lines(text);
     if n > limits::LARGE_LINES {
         return 0;
     }
     match form {
-        origins::Form::Ol => n * 7,
-        origins::Form::Om => n * 11,
+        Form::Ol => n * 7,
+        Form::Om => n * 11,
     }
 }
 
-// Where a listing is read: from standard input or a file, with a name of so many bytes, or nowhere, which is said.
-#[derive(Drop)]
-pub enum Source {
-    Standard(usize),
-    From(Named),
-    Nowhere,
-}
-
-#[derive(Drop)]
-pub struct Named {
-    pub file: File,
-    pub size: usize,
-}
-
-// Standard input, whose name is stored.
-fn standard(name: &mut [u8]) -> Source
-    requires { 14 ≤ length name.old }
-{
-    let size = lines::put(name, 0, b"standard input");
-    Source::Standard(size)
-}
-
-// Opens what argument `at` names, standard input where there is none or it is `-`, and stores its name.
-pub fn open_named(rt: &HostRuntime, program: &[u8], at: usize, name: &mut [u8]) -> Source
-    requires { 14 ≤ length name.old }
-{
-    if host::arg_count(rt) <= at {
-        return standard(name);
+// Says what came of a text. A refusal is told on standard error too: a tidy text may read like one, and a person wants to know more.
+fn report(
+    rt: &HostRuntime,
+    program: &[u8],
+    records: Option<usize>,
+    answer: Answer,
+    text: &[u8],
+    name: &[u8],
+    out: &[u8],
+    orig: &[u8],
+) {
+    if let Err(why) = write_answer(rt, answer, out) {
+        host::say_failed(rt, program, b"write", b"standard output", why);
+        return;
     }
-    match host::take_arg(rt, at, name) {
-        Word::Is(size) => {
-            if lines::same(lines::cut(name, 0, size), b"-") {
-                return standard(name);
-            }
-            open_file(rt, program, lines::cut(name, 0, size))
-        }
-        Word::Failed(why) => {
-            tell::fail(rt, program, b"take the file's name", why);
-            Source::Nowhere
-        }
+    let number = limits::number_of(answer);
+    if number != 0 {
+        tell::explain(rt, program, number, limits::place_of(answer), text, name);
+    } else if let Some(at) = records {
+        put_records(rt, program, at, orig);
     }
 }
 
-// Opens the file of a name.
-fn open_file(rt: &HostRuntime, program: &[u8], name: &[u8]) -> Source {
-    match host::open(rt, name) {
-        Opened::Is(file) => {
-            let size = name.len();
-            Source::From(Named { file, size })
+// A program of a name that tidies the listing that its arguments name, by what `tidy` does to a text, with records in a form: over room for a text, for what it becomes
+// and for the records. Of a text that did not come whole nothing is written. `forms` says whether the program has the option for a form.
+pub fn run(
+    rt: &HostRuntime,
+    program: &[u8],
+    forms: bool,
+    room: &mut [u8],
+    out: &mut [u8],
+    orig: &mut [u8],
+    tidy: impl FnOnce(Task, Form, &[u8], &mut [u8], &mut [u8]) -> Answer,
+) {
+    let asked = match asked::ask(rt, forms) {
+        Ok(asked) => asked,
+        Err(wrong) => {
+            tell::wrong(rt, program, wrong);
+            return;
         }
-        Opened::Failed(why) => {
-            tell::fail_with(rt, program, b"open ", name, why);
-            Source::Nowhere
-        }
+    };
+    let mut name = host::buffer();
+    if let Some((name, text)) = input::take_listing(rt, program, asked.at, &mut name, room) {
+        let form = asked.task.form_for(text);
+        let answer = tidy(asked.task, form, text, out, orig);
+        let records = lines::cut(orig, 0, records_size(form, text));
+        report(
+            rt,
+            program,
+            asked.task.records,
+            answer,
+            text,
+            name,
+            out,
+            records,
+        );
     }
 }

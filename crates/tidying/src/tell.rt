@@ -1,46 +1,36 @@
 // What a program says on standard error: for a refusal its number, what it means, where it is and what to do, each on a line with the program's name in front.
 // A file's name stands behind fixed words, so that no name makes one kind of message look like another.
+use crate::asked::Wrong;
 use input::host;
-
-fn say(rt: &HostRuntime, text: &[u8]) {
-    host::say(rt, text);
-}
-
-fn say_number(rt: &HostRuntime, n: usize) {
-    host::say_number(rt, n as u64);
-}
+use input::host::{say, say_number};
 
 // Says a line of a program's own.
-pub fn say_line(rt: &HostRuntime, program: &[u8], text: &[u8]) {
+fn say_line(rt: &HostRuntime, program: &[u8], text: &[u8]) {
     say(rt, program);
     say(rt, text);
 }
 
 // Says a text, an argument and the end of the line.
-pub fn say_word(rt: &HostRuntime, program: &[u8], text: &[u8], at: usize) {
-    let mut word = host::buffer();
-    let n = host::arg(rt, at, &mut word);
+fn say_word(rt: &HostRuntime, program: &[u8], text: &[u8], at: usize) {
     say_line(rt, program, text);
-    say(rt, &word[..n]);
+    say(rt, host::arg(rt, at, &mut host::buffer()));
     say(rt, b"\n");
 }
 
-// Says what a program cannot do, and the system's reason.
-pub fn fail(rt: &HostRuntime, program: &[u8], what: &[u8], why: i32) {
-    say_line(rt, program, b": cannot ");
-    host::say_failed(rt, what, why);
-}
-
-// Says what a program cannot do to a file, and the system's reason.
-pub fn fail_with(rt: &HostRuntime, program: &[u8], verb: &[u8], name: &[u8], why: i32) {
-    say_line(rt, program, b": cannot ");
-    say(rt, verb);
-    host::say_failed(rt, name, why);
-}
-
-// A place from 0 as it is counted from 1.
-fn from_one(n: usize) -> usize {
-    if n < usize::MAX { n + 1 } else { n }
+// Says what is wrong with the arguments.
+pub fn wrong(rt: &HostRuntime, program: &[u8], wrong: Wrong) {
+    match wrong {
+        Wrong::Pass(at) => say_word(
+            rt,
+            program,
+            b": --pass wants a number from 1 to 6, not: ",
+            at,
+        ),
+        Wrong::Form(at) => say_word(rt, program, b": --form wants OL or OM, not: ", at),
+        Wrong::Option(at) => say_word(rt, program, b": no such option: ", at),
+        Wrong::NoRecords => say_line(rt, program, b": --origins wants a file's name\n"),
+        Wrong::Files => say_line(rt, program, b": more than one file is named\n"),
+    }
 }
 
 // Where the byte stands that is one `[` too many, in line `n`.
@@ -56,9 +46,9 @@ fn say_where(rt: &HostRuntime, program: &[u8], what: &[u8], text: &[u8], at: usi
     say_line(rt, program, b": ");
     say(rt, what);
     say(rt, b" is byte ");
-    say_number(rt, from_one(lines::cut(text, start, at).len()));
+    say_number(rt, lines::cut(text, start, at).len().saturating_add(1));
     say(rt, b" of line ");
-    say_number(rt, from_one(line));
+    say_number(rt, line.saturating_add(1));
     say(rt, b" (offset ");
     say_number(rt, at);
     say(rt, b")\n");
@@ -171,7 +161,7 @@ pub fn explain(
     name: &[u8],
 ) {
     say_line(rt, program, b": refused ");
-    say_number(rt, number as usize);
+    say_number(rt, number);
     say(rt, b" in ");
     say(rt, name);
     say(rt, b": ");

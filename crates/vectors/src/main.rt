@@ -9,7 +9,8 @@ mod wire;
 ghost use Rattle.std.specs.Prelude.{◌≡◌, length};
 
 use input::host;
-use input::host::Opened;
+use input::host::{Failure, Output};
+use input::wire::bytes_of;
 use reply::Turn;
 
 // Room for an answer.
@@ -20,23 +21,19 @@ fn room() -> [u8; 262144]
 }
 
 // Writes an answer of `n` bytes, or that there is none.
-fn write_answer(rt: &HostRuntime, out: &[u8], n: usize) -> bool {
-    let mut h = [255u8; 4];
+fn write_answer(rt: &HostRuntime, out: &[u8], n: usize) -> Result<(), Failure> {
     if out.len() < n {
-        return host::is_whole(host::write(rt, &h));
+        return host::write(rt, &[255; 4]);
     }
-    answers::say::say_four(&mut h, 0, n);
-    if host::is_whole(host::write(rt, &h)) {
-        return host::is_whole(host::write(rt, lines::cut(out, 0, n)));
-    }
-    false
+    host::write(rt, &bytes_of(n))?;
+    host::write(rt, lines::cut(out, 0, n))
 }
 
 // Reads one request and writes its answer, and returns whether to go on.
 fn serve_one(rt: &HostRuntime, a: &mut [u8], b: &mut [u8], out: &mut [u8]) -> bool {
     let mut from = rt.stdin();
     match reply::reply_one(&mut from, a, b, out) {
-        Turn::Answer(_, n) => write_answer(rt, out, n),
+        Turn::Answer(_, n) => write_answer(rt, out, n).is_ok(),
         Turn::Ended => false,
         Turn::Cut => false,
     }
@@ -52,18 +49,18 @@ fn serve(rt: &HostRuntime, a: &mut [u8], b: &mut [u8], out: &mut [u8]) {
 
 // Replays the file that the first argument names.
 fn replay_file(rt: &HostRuntime, a: &mut [u8], b: &mut [u8], out: &mut [u8]) {
-    let mut path = host::buffer();
-    let n = host::arg(rt, 1, &mut path);
-    match host::open(rt, &path[..n]) {
-        Opened::Is(file) => {
-            let mut file = file;
+    let mut room = host::buffer();
+    let path = host::arg(rt, 1, &mut room);
+    match host::open(rt, path) {
+        Ok(mut file) => {
             let t = replay::replay(rt, &mut file, a, b, out);
             replay::report(rt, t);
         }
-        Opened::Failed(_) => {
-            host::write(rt, b"cannot open ");
-            host::write(rt, &path[..n]);
-            host::write(rt, b"\n");
+        Err(_) => {
+            let mut said = Output::new(rt);
+            said.text(b"cannot open ");
+            said.text(path);
+            said.text(b"\n");
         }
     }
 }

@@ -2,7 +2,7 @@
 use crate::reply::Turn;
 use crate::wire::Text;
 use crate::{reply, wire};
-use input::host;
+use input::host::Output;
 use std::fs::File;
 
 // How many requests were answered, how many of these answers agreed, how many requests have none, whether there may be more requests,
@@ -21,17 +21,18 @@ const SHOWN: u64 = 5;
 
 // Writes a text, a number and a text.
 fn say_count(rt: &HostRuntime, before: &[u8], n: u64, after: &[u8]) {
-    host::write(rt, before);
-    host::write_number(rt, n);
-    host::write(rt, after);
+    let mut out = Output::new(rt);
+    out.text(before);
+    out.number(n);
+    out.text(after);
 }
 
 // Says that the next request differs, unless enough were shown. Requests count from 0.
 fn differs(rt: &HostRuntime, t: Tally, function: u8) {
-    if SHOWN <= std::num::wrapping_sub_u64(t.asked, t.agreed) {
+    if SHOWN <= t.asked.wrapping_sub(t.agreed) {
         return;
     }
-    let k = std::num::wrapping_add_u64(t.asked, t.passed);
+    let k = t.asked.wrapping_add(t.passed);
     say_count(rt, b"differs: request ", k, b" function ");
     say_count(rt, b"", function as u64, b"\n");
 }
@@ -39,8 +40,8 @@ fn differs(rt: &HostRuntime, t: Tally, function: u8) {
 // One answer more, that agrees or differs.
 fn counted(t: Tally, agrees: bool) -> Tally {
     Tally {
-        asked: std::num::wrapping_add_u64(t.asked, 1),
-        agreed: std::num::wrapping_add_u64(t.agreed, if agrees { 1 } else { 0 }),
+        asked: t.asked.wrapping_add(1),
+        agreed: t.agreed.wrapping_add(agrees.into()),
         passed: t.passed,
         more: true,
         cut: false,
@@ -52,7 +53,7 @@ fn passed(t: Tally) -> Tally {
     Tally {
         asked: t.asked,
         agreed: t.agreed,
-        passed: std::num::wrapping_add_u64(t.passed, 1),
+        passed: t.passed.wrapping_add(1),
         more: true,
         cut: false,
     }
@@ -151,7 +152,7 @@ pub fn report(rt: &HostRuntime, t: Tally) {
         say_count(
             rt,
             b"the file is cut after ",
-            std::num::wrapping_add_u64(t.asked, t.passed),
+            t.asked.wrapping_add(t.passed),
             b" requests\n",
         );
         return;

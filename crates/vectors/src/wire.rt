@@ -40,7 +40,7 @@ pub fn read_text<R: Read>(from: &mut R, buf: &mut [u8]) -> Text {
     if read_full(from, &mut h) != 4 {
         return Text::Cut;
     }
-    read_known(from, four(h[0], h[1], h[2], h[3]), buf)
+    read_known(from, four(h), buf)
 }
 
 // Reads the second text of a request, whose first has the length `a`.
@@ -72,8 +72,8 @@ pub fn read_request<R: Read>(from: &mut R, a: &mut [u8], b: &mut [u8]) -> Asked 
     if got != 13 {
         return Asked::Cut;
     }
-    let number = (four(h[1], h[2], h[3], h[4]) | (four(h[5], h[6], h[7], h[8]) << 32)) as u64;
-    match read_known(from, four(h[9], h[10], h[11], h[12]), a) {
+    let number = u64::from_le_bytes([h[1], h[2], h[3], h[4], h[5], h[6], h[7], h[8]]);
+    match read_known(from, four([h[9], h[10], h[11], h[12]]), a) {
         Text::Whole(n) => read_second(from, h[0], number, n, b),
         Text::Cut => Asked::Cut,
     }

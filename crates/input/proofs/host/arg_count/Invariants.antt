@@ -1,8 +1,0 @@
-use Rattle.std.proofs.Common.{◌≤◌, ◌-◌}
-use Rattle.input.proofs.host.arg_count.Given as goal
-
-abbrev pub invariant-loop-i : goal.invariant-loop-i
-invariant-loop-i l = l.i ≤ 18446744073709551615
-
-abbrev pub decreases-loop-i : goal.decreases-loop-i
-decreases-loop-i l = 18446744073709551615 - l.i
