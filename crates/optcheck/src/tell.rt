@@ -1,7 +1,6 @@
 // What the program says on standard error: for a refusal its number, what it means and where, each on a line. A file's name stands behind
 // fixed words, so that no name makes one kind of message look like another.
 use input::host::{say, say_number};
-}
 
 // The number, from 1, of the line at a place.
 fn line_number(text: &[u8], at: usize) -> usize {

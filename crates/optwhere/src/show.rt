@@ -25,7 +25,6 @@ fn line_at(raw: &[u8], at: usize) -> &[u8] {
     line
 }
 
-// A number from 0 as it is counted from 1.
 // Writes a line of a raw listing as an editor reads it: the name, the number from 1, the text.
 fn put_line(rt: &HostRuntime, name: &[u8], number: usize, line: &[u8]) -> Result<(), Failure> {
     let mut out = Output::new(rt);
@@ -49,7 +48,6 @@ pub fn put_lines(
     let mut line = 0;
     for &next in numbers {
         at = input::behind(raw, at, b'\n', next.saturating_sub(line));
-        }
         line = next;
         put_line(rt, name, next, line_at(raw, at))?;
     }
