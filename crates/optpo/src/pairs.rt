@@ -12,21 +12,10 @@ const STR_WORD: usize = 8;
 // The system's number for why an empty line is not written: that of no error.
 const EMPTY: i32 = 0;
 
-// The place behind `n` LFs, from `from` on; the end of the text where it has fewer.
-pub fn behind(text: &[u8], from: usize, n: usize) -> usize {
-    let mut at = from;
-    let mut left = n;
-    while left > 0 {
-        at = lines::after(text, lines::find_byte(text, at, 10));
-        left -= 1;
-    }
-    at
-}
-
 // Writes what stands between the quotes of the line at a place, behind a word with its quote.
 fn put_quoted(rt: &HostRuntime, file: &[u8], at: usize, word: usize) -> Sent {
-    let l = lines::cut(file, at, lines::find_byte(file, at, 10));
-    if l.len() == 0 {
+    let l = lines::cut(file, at, lines::find_byte(file, at, b'\n'));
+    if l.is_empty() {
         return Sent::Failed(EMPTY);
     }
     host::write(rt, lines::cut(l, word, l.len() - 1))
@@ -34,8 +23,8 @@ fn put_quoted(rt: &HostRuntime, file: &[u8], at: usize, word: usize) -> Sent {
 
 // Writes the entry at a place: its msgid, a TAB and its msgstr.
 fn put_pair(rt: &HostRuntime, file: &[u8], at: usize) -> Sent {
-    let id = behind(file, at, 2);
-    let translated = behind(file, id, 1);
+    let id = input::behind(file, at, b'\n', 2);
+    let translated = input::behind(file, id, b'\n', 1);
     put_quoted(rt, file, id, ID_WORD)
         & host::write(rt, b"\t")
         & put_quoted(rt, file, translated, STR_WORD)
@@ -45,8 +34,7 @@ fn put_pair(rt: &HostRuntime, file: &[u8], at: usize) -> Sent {
 // Writes the entries of a file, and returns whether they went out.
 pub fn put_pairs(rt: &HostRuntime, file: &[u8]) -> Sent {
     let mut at = HEAD;
-    let mut left = file.len();
-    while left > 0 {
+    for _ in 0..file.len() {
         if file.len() <= at {
             return Sent::Whole;
         }
@@ -54,8 +42,7 @@ pub fn put_pairs(rt: &HostRuntime, file: &[u8]) -> Sent {
             Sent::Whole => {}
             Sent::Failed(why) => return Sent::Failed(why),
         }
-        at = behind(file, at, 4);
-        left -= 1;
+        at = input::behind(file, at, b'\n', 4);
     }
     Sent::Whole
 }

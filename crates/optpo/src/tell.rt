@@ -9,19 +9,14 @@ fn say_number(rt: &HostRuntime, n: usize) {
     host::say_number(rt, n as u64);
 }
 
-// A place from 0 as it is counted from 1.
-fn from_one(n: usize) -> usize {
-    if n < usize::MAX { n + 1 } else { n }
-}
-
 // Says where a byte stands: its line and its place in that line, from 1, and its place in the text, from 0.
 fn say_where(rt: &HostRuntime, text: &[u8], at: usize) {
-    let line = lines::count_byte(lines::cut(text, 0, at), 10);
+    let line = lines::count_byte(lines::cut(text, 0, at), b'\n');
     let start = lines::line_start(text, at);
     say(rt, b"optpo: at byte ");
-    say_number(rt, from_one(lines::cut(text, start, at).len()));
+    say_number(rt, lines::cut(text, start, at).len().saturating_add(1));
     say(rt, b" of line ");
-    say_number(rt, from_one(line));
+    say_number(rt, line.saturating_add(1));
     say(rt, b" (offset ");
     say_number(rt, at);
     say(rt, b")\n");
@@ -33,7 +28,7 @@ fn explain_name(rt: &HostRuntime, place: usize) {
         b"the file's name is empty, or holds white space or a byte that is not UTF-8\n",
     );
     say(rt, b"optpo: at byte ");
-    say_number(rt, from_one(place));
+    say_number(rt, place.saturating_add(1));
     say(rt, b" of the name\noptpo: give a name of one word\n");
 }
 
@@ -75,7 +70,7 @@ fn explain_line(rt: &HostRuntime, place: usize) {
         rt,
         b"a line is missing, or is not as optpo writes it\noptpo: at line ",
     );
-    say_number(rt, from_one(place));
+    say_number(rt, place.saturating_add(1));
     say(
         rt,
         b"\noptpo: change only what stands between the quotes of msgstr, and keep each string on its line (--no-wrap)\n",

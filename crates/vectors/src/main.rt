@@ -6,59 +6,46 @@ mod replay;
 mod reply;
 mod wire;
 
-ghost use Rattle.std.specs.Prelude.{◌≡◌, length};
-
 use input::host;
 use input::host::Opened;
-use reply::Turn;
+use reply::{Reply, Room};
 
-// Room for an answer.
-fn room() -> [u8; 262144]
-    ensures { 262144 ≡ length result }
-{
-    [0; 262144]
-}
-
-// Writes an answer of `n` bytes, or that there is none.
-fn write_answer(rt: &HostRuntime, out: &[u8], n: usize) -> bool {
-    let mut h = [255u8; 4];
-    if out.len() < n {
-        return host::is_whole(host::write(rt, &h));
-    }
-    answers::say::say_four(&mut h, 0, n);
-    if host::is_whole(host::write(rt, &h)) {
-        return host::is_whole(host::write(rt, lines::cut(out, 0, n)));
-    }
-    false
+// Writes an answer, or that there is none.
+fn write_answer(rt: &HostRuntime, out: &[u8], length: Option<usize>) -> bool {
+    let mut head = [255u8; 4];
+    let Some(n) = length else {
+        return host::is_whole(host::write(rt, &head));
+    };
+    answers::say::say_four(&mut head, 0, n);
+    host::is_whole(host::write(rt, &head)) && host::is_whole(host::write(rt, lines::cut(out, 0, n)))
 }
 
 // Reads one request and writes its answer, and returns whether to go on.
-fn serve_one(rt: &HostRuntime, a: &mut [u8], b: &mut [u8], out: &mut [u8]) -> bool {
+fn serve_one(rt: &HostRuntime, room: &mut Room) -> bool {
     let mut from = rt.stdin();
-    match reply::reply_one(&mut from, a, b, out) {
-        Turn::Answer(_, n) => write_answer(rt, out, n),
-        Turn::Ended => false,
-        Turn::Cut => false,
+    match room.reply_one(&mut from) {
+        Ok(Reply { length, .. }) => write_answer(rt, &room.out, length),
+        Err(_) => false,
     }
 }
 
 // Answers until the input ends. No run uses up the turns.
-fn serve(rt: &HostRuntime, a: &mut [u8], b: &mut [u8], out: &mut [u8]) {
-    let mut turns = u64::MAX;
-    while turns > 0 && serve_one(rt, a, b, out) {
-        turns -= 1;
+fn serve(rt: &HostRuntime, room: &mut Room) {
+    for _ in 0..u64::MAX {
+        if !serve_one(rt, room) {
+            return;
+        }
     }
 }
 
 // Replays the file that the first argument names.
-fn replay_file(rt: &HostRuntime, a: &mut [u8], b: &mut [u8], out: &mut [u8]) {
+fn replay_file(rt: &HostRuntime, room: &mut Room) {
     let mut path = host::buffer();
     let n = host::arg(rt, 1, &mut path);
     match host::open(rt, &path[..n]) {
         Opened::Is(file) => {
             let mut file = file;
-            let t = replay::replay(rt, &mut file, a, b, out);
-            replay::report(rt, t);
+            replay::replay(rt, &mut file, room);
         }
         Opened::Failed(_) => {
             host::write(rt, b"cannot open ");
@@ -70,12 +57,10 @@ fn replay_file(rt: &HostRuntime, a: &mut [u8], b: &mut [u8], out: &mut [u8]) {
 
 fn main(rt: HostRuntime) {
     let rt = &rt;
-    let mut a = host::large_buffer();
-    let mut b = host::large_buffer();
-    let mut out = room();
+    let mut room = Room::new();
     if host::arg_count(rt) < 2 {
-        serve(rt, &mut a, &mut b, &mut out);
+        serve(rt, &mut room);
         return;
     }
-    replay_file(rt, &mut a, &mut b, &mut out);
+    replay_file(rt, &mut room);
 }
