@@ -16,13 +16,10 @@ fn paren_if_needed(a: &[u8], after_new: bool, out: &mut [u8]) -> usize {
 
 // Whether one of some lines breaks a value, which is lent cleaned too.
 fn breaks_any(a: &[u8], clean: &[u8], b: &[u8]) -> bool {
-    let mut i = 0;
-    while i < b.len() {
-        let e = lines::find_byte(b, i, 10);
-        if forms::breaks(a, clean, lines::cut(b, i, e)) {
+    for line in lines::each::each(b) {
+        if forms::breaks(a, clean, line.bytes) {
             return true;
         }
-        i = lines::after(b, e);
     }
     false
 }

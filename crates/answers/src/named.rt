@@ -1,23 +1,12 @@
 // Answers of the functions on names and on a line as it is read.
 use crate::say::{nothing, say, say_byte, say_eight, say_flag};
 
-// 0, or 1 and the number of the register that a text names.
-fn reg_name(a: &[u8], out: &mut [u8]) -> usize {
-    match names::reg_name(a) {
-        Some(q) => {
+// 0, or 1 and the number of the register or the phi that a text names.
+fn say_name(number: Option<u64>, out: &mut [u8]) -> usize {
+    match number {
+        Some(n) => {
             let o = say_byte(out, 0, 1);
-            say_eight(out, o, q.0)
-        }
-        None => say_byte(out, 0, 0),
-    }
-}
-
-// 0, or 1 and the number of the phi that a text names.
-fn phi_name(a: &[u8], out: &mut [u8]) -> usize {
-    match names::phi_name(a) {
-        Some(q) => {
-            let o = say_byte(out, 0, 1);
-            say_eight(out, o, q.0)
+            say_eight(out, o, n)
         }
         None => say_byte(out, 0, 0),
     }
@@ -31,14 +20,11 @@ fn say_reg(piece: &[u8], out: &mut [u8], o: usize) -> usize {
     }
 }
 
-// The registers between the commas of a text that ends in one byte more.
+// The registers between the commas of a text.
 fn say_regs(s: &[u8], out: &mut [u8], o: usize) -> usize {
     let mut p = o;
-    let mut i = 0;
-    while i < s.len() {
-        let e = lines::find_byte(s, i, b',');
-        p = say_reg(lines::cut(s, i, e), out, p);
-        i = lines::after(s, e);
+    for piece in lines::pieces(s, b',') {
+        p = say_reg(piece, out, p);
     }
     p
 }
@@ -46,11 +32,10 @@ fn say_regs(s: &[u8], out: &mut [u8], o: usize) -> usize {
 // What stands between `let ` and `;` of a declaration.
 fn body(line: &[u8]) -> &[u8] {
     let t = text::trim(line);
-    let n = t.len();
-    if n == 0 {
+    if t.is_empty() {
         return t;
     }
-    lines::cut(t, 4, n - 1)
+    lines::cut(t, 4, t.len() - 1)
 }
 
 // What a line is: 0 and its registers, 1 and its register and value, or 2.
@@ -73,10 +58,8 @@ fn parse(a: &[u8], out: &mut [u8]) -> usize {
 // For each byte whether it is a name byte.
 fn name_bytes(a: &[u8], out: &mut [u8]) -> usize {
     let mut p = 0;
-    let mut i = 0;
-    while i < a.len() {
-        p = say_flag(out, p, text::is_name_byte(a[i]));
-        i += 1;
+    for &b in a {
+        p = say_flag(out, p, text::is_name_byte(b));
     }
     p
 }
@@ -84,8 +67,8 @@ fn name_bytes(a: &[u8], out: &mut [u8]) -> usize {
 // The answer of a function on names.
 pub fn answer(function: u8, a: &[u8], out: &mut [u8]) -> usize {
     match function {
-        9 => reg_name(a, out),
-        10 => phi_name(a, out),
+        9 => say_name(names::reg_name(a).map(|reg| reg.0), out),
+        10 => say_name(names::phi_name(a).map(|phi| phi.0), out),
         11 => say_flag(out, 0, names::is_temp_name(a)),
         12 => parse(a, out),
         18 => say_flag(out, 0, names::is_simple_ident(a)),

@@ -4,33 +4,25 @@ use crate::say::{nothing, say, say_byte, say_four};
 // The region of each line.
 fn regions(a: &[u8], out: &mut [u8]) -> usize {
     let mut p = 0;
-    let mut i = 0;
     let mut r = place::Region(0);
-    while i < a.len() {
-        let e = lines::find_byte(a, i, 10);
-        r = place::next_region(r, lines::cut(a, i, e));
+    for line in lines::each::each(a) {
+        r = place::next_region(r, line.bytes);
         p = say_four(out, p, r.0);
-        i = lines::after(a, e);
     }
     p
 }
 
 // The entry at a place, or 0 past the end.
 fn entry(table: &[usize], k: usize) -> usize {
-    if k < table.len() {
-        return table[k];
-    }
-    0
+    table.get(k).copied().unwrap_or(0)
 }
 
 // The place of the first entry that is equal to that at `k`.
 fn first_equal(table: &[usize], k: usize) -> usize {
-    let mut i = 0;
-    while i < k {
+    for i in 0..k {
         if entry(table, i) == entry(table, k) {
             return i;
         }
-        i += 1;
     }
     k
 }
@@ -41,15 +33,13 @@ fn say_entries(table: &[usize], n: usize, equal: bool, out: &mut [u8]) -> usize 
         return nothing();
     }
     let mut p = 0;
-    let mut k = 0;
-    while k < n {
+    for k in 0..n {
         let v = if equal {
             first_equal(table, k)
         } else {
             entry(table, k)
         };
         p = say_four(out, p, v);
-        k += 1;
     }
     p
 }
@@ -120,10 +110,7 @@ fn inside_loop(a: &[u8], out: &mut [u8]) -> usize {
 // Copies lines and puts an empty one after them.
 fn one_more(a: &[u8], more: &mut [u8]) -> usize {
     let o = say(more, 0, a);
-    if lines::ends_lf(a) {
-        return say_byte(more, o, 10);
-    }
-    if a.len() == 0 {
+    if a.is_empty() || lines::ends_lf(a) {
         return say_byte(more, o, 10);
     }
     let p = say_byte(more, o, 10);

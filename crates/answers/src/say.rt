@@ -1,7 +1,7 @@
 // Writing an answer into a lent buffer as far as there is room: a place past the end says that there was none.
 
 // The place past every end.
-const FULL: usize = 18446744073709551615;
+const FULL: usize = usize::MAX;
 
 // No answer.
 pub fn nothing() -> usize {
@@ -10,11 +10,7 @@ pub fn nothing() -> usize {
 
 // Writes `t` at `o`, and returns the place after it.
 pub fn say(out: &mut [u8], o: usize, t: &[u8]) -> usize {
-    let n = out.len();
-    if n < o {
-        return FULL;
-    }
-    if n - o < t.len() {
+    if out.len() < o || out.len() - o < t.len() {
         return FULL;
     }
     lines::put(out, o, t)
@@ -30,28 +26,15 @@ pub fn say_byte(out: &mut [u8], o: usize, b: u8) -> usize {
 
 // Writes a truth value at `o`, and returns the place after it.
 pub fn say_flag(out: &mut [u8], o: usize, b: bool) -> usize {
-    say_byte(out, o, if b { 1 } else { 0 })
+    say_byte(out, o, u8::from(b))
 }
 
-// Writes so many bytes of a number at `o`, the low byte first, and returns the place after them.
-fn say_bytes(out: &mut [u8], o: usize, v: u64, bytes: usize) -> usize {
-    let mut p = o;
-    let mut rest = v;
-    let mut k = bytes;
-    while 0 < k {
-        p = say_byte(out, p, (rest % 256) as u8);
-        rest /= 256;
-        k -= 1;
-    }
-    p
-}
-
-// Writes a number of eight bytes at `o`, and returns the place after it.
+// Writes a number of eight bytes at `o`, the low byte first, and returns the place after it.
 pub fn say_eight(out: &mut [u8], o: usize, v: u64) -> usize {
-    say_bytes(out, o, v, 8)
+    say(out, o, &v.to_le_bytes())
 }
 
-// Writes a number of four bytes at `o`, and returns the place after it.
+// Writes the four low bytes of a number at `o`, and returns the place after it.
 pub fn say_four(out: &mut [u8], o: usize, v: usize) -> usize {
-    say_bytes(out, o, v as u64, 4)
+    say(out, o, &v.to_le_bytes()[..4])
 }

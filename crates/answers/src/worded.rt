@@ -45,14 +45,7 @@ fn occurrence_context(a: &[u8], number: u64, out: &mut [u8]) -> usize {
 
 // Whether a text is one run of name bytes.
 fn is_run(b: &[u8]) -> bool {
-    let mut i = 0;
-    while i < b.len() {
-        if !text::is_name_byte(b[i]) {
-            return false;
-        }
-        i += 1;
-    }
-    0 < b.len()
+    !b.is_empty() && b.iter().all(|&x| text::is_name_byte(x))
 }
 
 // How often a name stands in a text, as the number, or as whether it does. A text that is no run of name bytes is not looked for.

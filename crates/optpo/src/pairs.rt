@@ -11,17 +11,6 @@ const STR_WORD: usize = 8;
 // The system's number for why an empty line is not written: that of no error.
 const EMPTY: i32 = 0;
 
-// The place behind `n` LFs, from `from` on; the end of the text where it has fewer.
-pub fn behind(text: &[u8], from: usize, n: usize) -> usize {
-    let mut at = from;
-    let mut left = n;
-    while left > 0 {
-        at = lines::after(text, lines::find_byte(text, at, 10));
-        left -= 1;
-    }
-    at
-}
-
 // Writes what stands between the quotes of the line at a place, behind a word with its quote.
 fn put_quoted(out: &mut Output, file: &[u8], at: usize, word: usize) {
     let l = lines::cut(file, at, lines::find_byte(file, at, 10));
@@ -34,8 +23,8 @@ fn put_quoted(out: &mut Output, file: &[u8], at: usize, word: usize) {
 
 // Writes the entry at a place: its msgid, a TAB and its msgstr.
 fn put_pair(out: &mut Output, file: &[u8], at: usize) {
-    let id = behind(file, at, 2);
-    let translated = behind(file, id, 1);
+    let id = input::behind(file, at, b'\n', 2);
+    let translated = input::behind(file, id, b'\n', 1);
     put_quoted(out, file, id, ID_WORD);
     out.text(b"\t");
     put_quoted(out, file, translated, STR_WORD);
@@ -46,15 +35,13 @@ fn put_pair(out: &mut Output, file: &[u8], at: usize) {
 pub fn put_pairs(rt: &HostRuntime, file: &[u8]) -> Result<(), Failure> {
     let mut out = Output::new(rt);
     let mut at = HEAD;
-    let mut left = file.len();
-    while left > 0 {
+    for _ in 0..file.len() {
         if file.len() <= at {
             break;
         }
         put_pair(&mut out, file, at);
         out.sent()?;
-        at = behind(file, at, 4);
-        left -= 1;
+        at = input::behind(file, at, b'\n', 4);
     }
     Ok(())
 }

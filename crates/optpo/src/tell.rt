@@ -3,7 +3,7 @@ use input::host::{say, say_number};
 
 // Says where a byte stands: its line and its place in that line, from 1, and its place in the text, from 0.
 fn say_where(rt: &HostRuntime, text: &[u8], at: usize) {
-    let line = lines::count_byte(lines::cut(text, 0, at), 10);
+    let line = lines::count_byte(lines::cut(text, 0, at), b'\n');
     let start = lines::line_start(text, at);
     say(rt, b"optpo: at byte ");
     say_number(rt, lines::cut(text, start, at).len().saturating_add(1));

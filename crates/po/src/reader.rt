@@ -11,7 +11,7 @@ ghost use Rattle.po.specs.Reader.{is_valid, is_quoted_line, quoted_text, colon, 
 ghost use Rattle.po.specs.Inner.Index.{Tells};
 ghost use Rattle.po.specs.Inner.ReadWalk.{formed, is_reference, follows, next_of, state_at, gives_one, gives, same_id, At, read_verdict};
 
-use crate::{Line, Seek, Strings, StringsRefusal, file_name, index, same_text, unit_at};
+use crate::{Line, Seek, Strings, StringsRefusal, file_name, index, same_text, unit_at, units};
 
 const QUOTE: u8 = 34;
 
@@ -328,15 +328,8 @@ fn plain_len(s: &[u8], q: u8) -> usize
     ensures { result ≡ length (decoded s.now q) }
 {
     let mut n = 0;
-    let mut i = 0;
-    // Kept: the place moves by what a unit takes.
-    while i < s.len() {
-        let x = unit_at(s, i, q);
-        if x.size == 0 {
-            return n;
-        }
+    for _ in units::each(s, q) {
         n += 1;
-        i += x.size;
     }
     n
 }
@@ -392,15 +385,8 @@ fn put_plain(out: &mut [u8], o: usize, s: &[u8], q: u8) -> usize
     ensures { Wrote out.old o (decoded s.now q) out.new result }
 {
     let mut p = o;
-    let mut i = 0;
-    // Kept: the place moves by what a unit takes.
-    while i < s.len() {
-        let x = unit_at(s, i, q);
-        if x.size == 0 {
-            return p;
-        }
-        p = lines::put_byte(out, p, x.byte);
-        i += x.size;
+    for b in units::each(s, q) {
+        p = lines::put_byte(out, p, b);
     }
     p
 }

@@ -6,56 +6,43 @@ mod replay;
 mod reply;
 mod wire;
 
-ghost use Rattle.std.specs.Prelude.{◌≡◌, length};
-
 use input::host;
-use input::host::{Failure, Output};
+use input::host::Output;
 use input::wire::bytes_of;
-use reply::Turn;
+use reply::{Reply, Room};
 
-// Room for an answer.
-fn room() -> [u8; 262144]
-    ensures { 262144 ≡ length result }
-{
-    [0; 262144]
-}
-
-// Writes an answer of `n` bytes, or that there is none.
-fn write_answer(rt: &HostRuntime, out: &[u8], n: usize) -> Result<(), Failure> {
-    if out.len() < n {
-        return host::write(rt, &[255; 4]);
-    }
-    host::write(rt, &bytes_of(n))?;
-    host::write(rt, lines::cut(out, 0, n))
+// Writes an answer, or that there is none, and returns whether it went out.
+fn write_answer(rt: &HostRuntime, out: &[u8], length: Option<usize>) -> bool {
+    let Some(n) = length else {
+        return host::write(rt, &[255; 4]).is_ok();
+    };
+    host::write(rt, &bytes_of(n)).is_ok() && host::write(rt, lines::cut(out, 0, n)).is_ok()
 }
 
 // Reads one request and writes its answer, and returns whether to go on.
-fn serve_one(rt: &HostRuntime, a: &mut [u8], b: &mut [u8], out: &mut [u8]) -> bool {
+fn serve_one(rt: &HostRuntime, room: &mut Room) -> bool {
     let mut from = rt.stdin();
-    match reply::reply_one(&mut from, a, b, out) {
-        Turn::Answer(_, n) => write_answer(rt, out, n).is_ok(),
-        Turn::Ended => false,
-        Turn::Cut => false,
+    match room.reply_one(&mut from) {
+        Ok(Reply { length, .. }) => write_answer(rt, &room.out, length),
+        Err(_) => false,
     }
 }
 
 // Answers until the input ends. No run uses up the turns.
-fn serve(rt: &HostRuntime, a: &mut [u8], b: &mut [u8], out: &mut [u8]) {
-    let mut turns = u64::MAX;
-    while turns > 0 && serve_one(rt, a, b, out) {
-        turns -= 1;
+fn serve(rt: &HostRuntime, room: &mut Room) {
+    for _ in 0..u64::MAX {
+        if !serve_one(rt, room) {
+            return;
+        }
     }
 }
 
 // Replays the file that the first argument names.
-fn replay_file(rt: &HostRuntime, a: &mut [u8], b: &mut [u8], out: &mut [u8]) {
-    let mut room = host::buffer();
-    let path = host::arg(rt, 1, &mut room);
+fn replay_file(rt: &HostRuntime, room: &mut Room) {
+    let mut name = host::buffer();
+    let path = host::arg(rt, 1, &mut name);
     match host::open(rt, path) {
-        Ok(mut file) => {
-            let t = replay::replay(rt, &mut file, a, b, out);
-            replay::report(rt, t);
-        }
+        Ok(mut file) => replay::replay(rt, &mut file, room),
         Err(_) => {
             let mut said = Output::new(rt);
             said.text(b"cannot open ");
@@ -67,12 +54,10 @@ fn replay_file(rt: &HostRuntime, a: &mut [u8], b: &mut [u8], out: &mut [u8]) {
 
 fn main(rt: HostRuntime) {
     let rt = &rt;
-    let mut a = host::large_buffer();
-    let mut b = host::large_buffer();
-    let mut out = room();
+    let mut room = Room::new();
     if host::arg_count(rt) < 2 {
-        serve(rt, &mut a, &mut b, &mut out);
+        serve(rt, &mut room);
         return;
     }
-    replay_file(rt, &mut a, &mut b, &mut out);
+    replay_file(rt, &mut room);
 }

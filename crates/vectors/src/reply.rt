@@ -1,43 +1,54 @@
 // One turn: a request is read and answered.
 use crate::wire;
-use crate::wire::{Asked, Request};
+use crate::wire::{End, Request};
 use std::io::Read;
 
-// A function and the length of its answer; the end of the input where a request could begin; its end within one.
+// Room for a text, and for an answer.
+const TEXT: usize = 65536;
+
+const ANSWER: usize = 262144;
+
+// Room for the texts of a request and for its answer.
+#[derive(Drop)]
+pub struct Room {
+    pub a: [u8; TEXT],
+    pub b: [u8; TEXT],
+    pub out: [u8; ANSWER],
+}
+
+// The function of a request and the length of its answer; none where its texts or the answer did not fit.
 #[derive(Clone, Copy)]
-pub enum Turn {
-    Answer(u8, usize),
-    Ended,
-    Cut,
+pub struct Reply {
+    pub function: u8,
+    pub length: Option<usize>,
 }
 
-// Writes the answer to a request and returns its length, past the end of the buffer where there is none: where its texts did not fit.
-fn reply(q: Request, a: &[u8], b: &[u8], out: &mut [u8]) -> usize {
-    let n = q.a;
-    let m = q.b;
-    if a.len() < n {
-        return answers::say::nothing();
-    }
-    if b.len() < m {
-        return answers::say::nothing();
-    }
-    answers::answer(
-        q.function,
-        q.number,
-        lines::cut(a, 0, n),
-        lines::cut(b, 0, m),
-        out,
-    )
-}
-
-// Reads a request and writes its answer.
-pub fn reply_one<R: Read>(from: &mut R, a: &mut [u8], b: &mut [u8], out: &mut [u8]) -> Turn {
-    match wire::read_request(from, a, b) {
-        Asked::Whole(q) => {
-            let n = reply(q, a, b, out);
-            Turn::Answer(q.function, n)
+impl Room {
+    pub fn new() -> Room {
+        Room {
+            a: [0; TEXT],
+            b: [0; TEXT],
+            out: [0; ANSWER],
         }
-        Asked::Ended => Turn::Ended,
-        Asked::Cut => Turn::Cut,
+    }
+
+    // Writes the answer to a request and gives its length.
+    fn answer(&mut self, q: Request) -> Option<usize> {
+        if TEXT < q.a || TEXT < q.b {
+            return None;
+        }
+        let a = lines::cut(&self.a, 0, q.a);
+        let b = lines::cut(&self.b, 0, q.b);
+        let n = answers::answer(q.function, q.number, a, b, &mut self.out);
+        (n <= ANSWER).then_some(n)
+    }
+
+    // Reads a request and writes its answer.
+    pub fn reply_one<R: Read>(&mut self, from: &mut R) -> Result<Reply, End> {
+        let q = wire::read_request(from, &mut self.a, &mut self.b)?;
+        Ok(Reply {
+            function: q.function,
+            length: self.answer(q),
+        })
     }
 }

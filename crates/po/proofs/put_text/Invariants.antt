@@ -1,12 +1,7 @@
-use Prim.Native.Nat.{◌-◌}
-use lib.ListN.{length, drop}
 use Rattle.lines.proofs.OutLaws.{Writing}
 use Rattle.po.specs.Found.{decoded}
 use Rattle.po.specs.Form.{escaped}
 use Rattle.po.proofs.put_text.Given as goal
 
-abbrev pub invariant-loop-i : goal.invariant-loop-i
-invariant-loop-i l = Writing l.o (escaped (decoded l.s l.q)) (escaped (decoded (drop l.i l.s) l.q)) l.initial.out l.out l.p
-
-abbrev pub decreases-loop-i : goal.decreases-loop-i
-decreases-loop-i l = length l.s - l.i
+abbrev pub invariant-loop-b : goal.invariant-loop-b
+invariant-loop-b l = let it = l.b-iterator in Writing l.o (escaped (decoded l.s l.q)) (escaped (decoded it.rest.now it.quote)) l.initial.out l.out l.p

@@ -1,5 +1,5 @@
 -- What the iterator over the bytes of a literal's text gives. Assumes nothing.
-use Rattle.std.specs.Prelude.{ℕ, ◌≡◌, List, [], ◌∷◌, MatchOption}
+use Rattle.std.specs.Prelude.{ℕ, ◌≡◌, [], ◌∷◌, MatchOption}
 use Rattle.std.specs.declared.option.Option.{Option}
 use Rattle.po.specs.Found.{decoded}
 use Rattle.po.specs.declared.units.Units.{Units}

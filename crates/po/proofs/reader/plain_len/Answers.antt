@@ -1,26 +1,12 @@
-use native.Mathlib.Omega.{arith}
-use mathlib.Core.Path.{ap}
-use lib.ListN.{length}
-use Rattle.po.proofs.UnitLaws.{size-in, text-stop, text-on, text-past, text-le}
+use Rattle.std.proofs.Common.{ap, length, arith}
+use Rattle.po.proofs.UnitLaws.{text-le}
 use Rattle.po.proofs.reader.plain_len.Goals as goal
 
-pub unit_at-x-requires : goal.unit_at-x-requires
-unit_at-x-requires c = tt
-
-pub returns-then-x-eq0 : goal.returns-then-x-eq0
-returns-then-x-eq0 c = let a = c.args in let l = c.loop-i in omega (arith, l.invariant, ap length (text-stop a.s.now a.q l.i _ c.unit_at-x.ensures c.if-x-eq0.true))
-
 pub overflow_add-n : goal.overflow_add-n
-overflow_add-n c = let a = c.args in let l = c.loop-i in omega (arith, l.invariant, text-le a.s.now a.q)
+overflow_add-n c = let a = c.args in omega (arith, c.loop.invariant, text-le a.s.now a.q)
 
-pub overflow_add-i : goal.overflow_add-i
-overflow_add-i c = let a = c.args in let l = c.loop-i in omega (arith, size-in a.s.now a.q l.i c.unit_at-x.result c.unit_at-x.ensures c.if-x-eq0.false)
-
-pub loop-i-smaller : goal.loop-i-smaller
-loop-i-smaller c = omega (arith, c.if-x-eq0.false)
-
-pub loop-i-preserved : goal.loop-i-preserved
-loop-i-preserved c = let a = c.args in let l = c.loop-i in omega (arith, l.invariant, ap length (text-on a.s.now a.q l.i c.unit_at-x.result c.unit_at-x.ensures c.if-x-eq0.false))
+pub loop-preserved : goal.loop-preserved
+loop-preserved c = omega (arith, c.loop.invariant, ap length c.in-Some.ensures.steps.1)
 
 pub returns : goal.returns
-returns c = let a = c.args in let l = c.loop-i in omega (arith, l.invariant, ap length (text-past a.s.now a.q l.i c.loop-i-test.false))
+returns c = omega (arith, c.loop.invariant, ap length c.in-None.ensures.steps.1)
