@@ -5,6 +5,8 @@ pub mod host;
 pub mod lent;
 pub mod wire;
 
+ghost use Rattle.std.specs.Prelude.{◌≤◌, length};
+
 use host::Failure;
 use std::io::{ErrorKind, Read};
 

@@ -38,11 +38,10 @@ fn write_behind(rt: &HostRuntime, head: &[u8], bytes: &[u8]) -> bool {
 
 // Writes an answer, and returns whether it went out.
 pub fn write_answer(rt: &HostRuntime, number: u8, memory: bool, place: usize, res: &[u8]) -> bool {
-    let mut head = [0; 10];
-    head[0] = number;
-    head[1] = u8::from(memory);
-    head[2..6].copy_from_slice(&bytes_of(res.len()));
-    head[6..].copy_from_slice(&bytes_of(place));
+    let memory = u8::from(memory);
+    let [n0, n1, n2, n3] = bytes_of(res.len());
+    let [p0, p1, p2, p3] = bytes_of(place);
+    let head = [number, memory, n0, n1, n2, n3, p0, p1, p2, p3];
     write_behind(rt, &head, res)
 }
 
