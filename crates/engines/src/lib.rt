@@ -87,24 +87,20 @@ fn flag_lines(
     ensures answer { Filled flags.old (flags_of (drops_in (reading_of mode.0) (lines_of text.now) paths.now loops.now)) flags.new result }
     ensures memory { scratch.new ≡ scratch.old }
 {
-    let mut i = 0;
     let mut k = 0;
-    while i < text.len() {
-        let e = lines::find_byte(text, i, 10);
-        let j = lines::after(text, e);
-        let n = k + 1;
+    for line in lines::each::each(text) {
+        let below = lines::after(text, line.to);
         let goes = line_goes(
             mode,
-            &text[i..e],
+            line.bytes,
             paths[k],
             loops[k] != 0,
-            &text[j..],
-            &paths[n..],
+            &text[below..],
+            &paths[k + 1..],
             scratch,
         );
         flags[k] = place::flag(goes);
-        k = n;
-        i = j;
+        k += 1;
     }
     k
 }
