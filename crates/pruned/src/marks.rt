@@ -85,20 +85,15 @@ fn put_names(
     requires { (Says own.now m (lines_of region.now) seen.now) × (o + length (names_marks (lines_of region.now) (parts_of 44 body.now)) ≤ length out.old) }
     ensures { Wrote out.old o (names_marks (lines_of region.now) (parts_of 44 body.now)) out.new result }
 {
-    let mut i = 0;
     let mut p = o;
-    loop {
-        let e = lines::find_byte(body, i, b',');
-        let t = text::trim(&body[i..e]);
+    for piece in lines::pieces(body, b',') {
+        let t = text::trim(piece);
         let s = decls::stays_in(region, own, m, seen, t);
         let d = digits(t);
         p = lines::put_byte(out, p, mark_of(s, d));
-        p = put_filled(out, p, e - i, d);
-        if e >= body.len() {
-            return p;
-        }
-        i = e + 1;
+        p = put_filled(out, p, piece.len(), d);
     }
+    p
 }
 
 // Writes the marks of a declaration, as many bytes as it has with its LF.
@@ -127,24 +122,18 @@ pub fn mark_used(raw: &[u8], own: &[usize], seen: &mut [usize], out: &mut [u8]) 
     let mut a = 0;
     let mut b = 0;
     let mut m = 0;
-    let mut i = 0;
     let mut o = 0;
-    while i < raw.len() {
-        let e = lines::find_byte(raw, i, 10);
-        let line = &raw[i..e];
-        if place::is_header(line) {
-            a = i;
+    for line in lines::each::each(raw) {
+        if place::is_header(line.bytes) {
+            a = line.from;
         }
-        if parse::declares(line) {
-            let n = lines::after(raw, e);
+        if parse::declares(line.bytes) {
             let k = decls::mark_uses(raw, own, a, b, m, seen);
             m = k.mark;
             b = k.end;
-            o = put_marks(line, &raw[a..b], own, m, seen, out, o);
-            i = n;
+            o = put_marks(line.bytes, &raw[a..b], own, m, seen, out, o);
         } else {
-            o = put_zeros(out, o, e - i + 1);
-            i = lines::after(raw, e);
+            o = put_zeros(out, o, line.bytes.len() + 1);
         }
     }
     o

@@ -1,11 +1,7 @@
-use Rattle.lines.specs.Lf.{lines_of}
-use lib.ListN.{length}
-use Prim.Native.Nat.{◌-◌}
+use Rattle.lines.specs.Lf.{lines_of, parts_of}
+use Rattle.lines.specs.Inner.Pieces.{pieces_left}
 use Rattle.pruned.proofs.MarkCode.{NamesInv}
 use Rattle.pruned.proofs.marks.put_names.Given as goal
 
-abbrev pub invariant-loop-m : goal.invariant-loop-m
-invariant-loop-m l = NamesInv (lines_of l.region) l.body l.initial.out l.out l.o l.i l.p
-
-abbrev pub decreases-loop-m : goal.decreases-loop-m
-decreases-loop-m l = length l.body - l.i
+abbrev pub invariant-loop-piece : goal.invariant-loop-piece
+invariant-loop-piece l = NamesInv (lines_of l.region) (parts_of 44 l.body) (pieces_left l.piece-iterator) l.initial.out l.out l.o l.p

@@ -1,4 +1,4 @@
-use Rattle.std.proofs.Common.{rules, ◌≡◌, ◌+◌, ◌-◌, length, replicate, refl, arith}
+use Rattle.std.proofs.Common.{rules, ◌≡◌, ◌+◌, replicate}
 use Rattle.lines.proofs.OutLaws.{wrote_part}
 use Rattle.pruned.proofs.marks.put_zeros.Goals as goal
 
