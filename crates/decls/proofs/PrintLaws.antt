@@ -16,7 +16,7 @@ use Rattle.lines.proofs.OutLaws.{Writing, writing_start, writing-as, writing-roo
 use Rattle.text.specs.Trim.{trim_of}
 use Rattle.names.specs.Names.{decimal}
 use Rattle.names.specs.Inner.Names.{zeros, number_after}
-use Rattle.std.specs.declared.option.Option.TheVariants.{Some, None}
+use Rattle.std.specs.declared.option.Option.TheVariants.{Some}
 use Rattle.names.proofs.Digits.{zeros-lt}
 use Rattle.names.proofs.Texts.{after-read, after-copied}
 use Rattle.parse.specs.Parse.{let_word}
@@ -248,6 +248,48 @@ module _ {f : List ℕ → Bool} {k : ℕ} {indent body d₀ d : List ℕ} {o i 
 
     pub decl-end : {d'' : List ℕ} {u : ℕ} → length body ≤ e → Wrote d' r (end_of (ltb o r)) d'' u → Wrote d₀ o (decl_text indent (kept f k (parts_of 44 body)) false) d'' u
     decl-end l w = writing-end (writing-put (at-end l) w)
+
+-- the loop that writes a declaration: of its pieces, those that are left are still to come
+pub record DeclLeft (f : List ℕ → Bool) (k : ℕ) (indent : List ℕ) (all left : List (List ℕ)) (d₀ d : List ℕ) (o p : ℕ) : Type 0 where
+  pub writing : Writing o (decl_text indent (kept f k all) false) (decl_text indent (kept f k left) (ltb o p)) d₀ d p
+
+pub left-start : (f : List ℕ → Bool) (k : ℕ) (indent : List ℕ) {all left : List (List ℕ)} → left ≡ all → (d : List ℕ) (o : ℕ) → o + length (decl_text indent (kept f k all) false) ≤ length d →
+    DeclLeft f k indent all left d d o o
+left-start f k indent {all} {left} e d o h = record {
+  writing = writing-as (ap (λ (b : Bool). decl_text indent (kept f k all) b) (sym (le-ltb o o (omega arith))) ∙ ap (λ (ps : List (List ℕ)). decl_text indent (kept f k ps) (ltb o o)) (sym e))
+      (writing_start o (decl_text indent (kept f k all) false) d h);
+}
+
+module _ {f : List ℕ → Bool} {k : ℕ} {indent : List ℕ} {all left : List (List ℕ)} {d₀ d : List ℕ} {o p : ℕ} (h : DeclLeft f k indent all left d₀ d o p) where
+  module _ {w : List ℕ} {more : List (List ℕ)} (e : left ≡ w ∷ more) (t : List ℕ) (z : t ≡ trim_of w) (s : Bool) (y : s ≡ f t) where
+    piece-is : one (f (trim_of w)) k (trim_of w) ≡ one s k t
+    piece-is = rw (← z, ← y)
+
+    kept-cut : kept f k left ≡ one s k t ++ kept f k more
+    kept-cut = ap (kept f k) e ∙ kept_cons f k w more ∙ ap (λ (r : List (List ℕ)). r ++ kept f k more) piece-is
+
+    -- what is still to come is this piece, and then the rest
+    piece-writing : Writing o (decl_text indent (kept f k all) false) (named indent (one s k t) (ltb o p) ++ decl_text indent (kept f k more) (some_of (one s k t) (ltb o p))) d₀ d p
+    piece-writing = writing-as (ap (λ (r : List (List ℕ)). decl_text indent r (ltb o p)) kept-cut ∙ text-append indent (one s k t) (kept f k more) (ltb o p)) h.writing
+
+    pub left-room : p + length (named indent (one s k t) (ltb o p)) ≤ length d
+    left-room = writing-fits (named indent (one s k t) (ltb o p)) _ piece-writing
+
+    pub left-on : {d' : List ℕ} {r : ℕ} → Wrote d p (named indent (one s k t) (ltb o p)) d' r → DeclLeft f k indent all more d₀ d' o r
+    left-on {d'} {r} v = record {
+      writing = writing-as (ap (λ (b : Bool). decl_text indent (kept f k more) b) (some_after indent (one s k t) o p r (omega (arith, h.writing.wrote.place)) v.place)) (writing-put piece-writing v);
+    }
+
+  -- after the last piece only the end is to come
+  module _ (e : left ≡ []) where
+    end-writing : Writing o (decl_text indent (kept f k all) false) (end_of (ltb o p) ++ []) d₀ d p
+    end-writing = writing-as (ap (λ (r : List (List ℕ)). decl_text indent r (ltb o p)) (ap (kept f k) e ∙ kept-none f k) ∙ text-none indent (ltb o p) ∙ sym (append-nil (end_of (ltb o p)))) h.writing
+
+    pub left-end-room : p + length (end_of (ltb o p)) ≤ length d
+    left-end-room = writing-fits (end_of (ltb o p)) [] end-writing
+
+    pub left-end : {d' : List ℕ} {u : ℕ} → Wrote d p (end_of (ltb o p)) d' u → Wrote d₀ o (decl_text indent (kept f k all) false) d' u
+    left-end w = writing-end (writing-put end-writing w)
 
 -- ---- what is written is what the act says
 

@@ -71,18 +71,13 @@ fn put_decl(
         × (o + length (decl_text indent.now (kept (stays (lines_of region.now)) 1 (parts_of 44 body.now)) false) ≤ length out.old) }
     ensures { Wrote out.old o (decl_text indent.now (kept (stays (lines_of region.now)) 1 (parts_of 44 body.now)) false) out.new result }
 {
-    let mut i = 0;
     let mut p = o;
-    loop {
-        let e = lines::find_byte(body, i, b',');
-        let t = text::trim(&body[i..e]);
+    for piece in lines::pieces(body, b',') {
+        let t = text::trim(piece);
         let s = stays_in(region, own, m, seen, t);
         p = print::put_part(indent, o < p, s, t, 1, out, p);
-        if e >= body.len() {
-            return print::put_end(o < p, out, p);
-        }
-        i = e + 1;
     }
+    print::put_end(o < p, out, p)
 }
 
 // Writes what a declaration of a region becomes.
