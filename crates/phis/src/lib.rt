@@ -203,18 +203,13 @@ fn put_decl(
     requires { (Tells own.now (lines_of text.now) table.now) × (o + length (decl_text indent.now (kept (live (lines_of text.now)) 3 (parts_of 44 body.now)) false) ≤ length out.old) }
     ensures { Wrote out.old o (decl_text indent.now (kept (live (lines_of text.now)) 3 (parts_of 44 body.now)) false) out.new result }
 {
-    let mut i = 0;
     let mut p = o;
-    loop {
-        let e = lines::find_byte(body, i, b',');
-        let t = text::trim(lines::cut(body, i, e));
+    for piece in lines::pieces(body, b',') {
+        let t = text::trim(piece);
         let s = is_live(t, text, own, table);
         p = decls::print::put_part(indent, o < p, s, t, 3, out, p);
-        if e >= body.len() {
-            return decls::print::put_end(o < p, out, p);
-        }
-        i = e + 1;
     }
+    decls::print::put_end(o < p, out, p)
 }
 
 // Whether a value has no effect in a mode, by either test. Of the scratch only as much is used as the value is long.
