@@ -336,18 +336,13 @@ fn put_decl(
         × (o + length (decl_text indent.now (kept (left (bound_at text.now s blocks.now starts.now)) 1 (parts_of 44 body.now)) false) ≤ length out.old) }
     ensures { Wrote out.old o (decl_text indent.now (kept (left (bound_at text.now s blocks.now starts.now)) 1 (parts_of 44 body.now)) false) out.new result }
 {
-    let mut i = 0;
     let mut p = o;
-    loop {
-        let e = lines::find_byte(body, i, b',');
-        let t = text::trim(&body[i..e]);
+    for piece in lines::pieces(body, b',') {
+        let t = text::trim(piece);
         let l = is_left(text, own, s, blocks, starts, seen, first, t);
         p = decls::print::put_part(indent, o < p, l, t, 1, out, p);
-        if e >= body.len() {
-            return decls::print::put_end(o < p, out, p);
-        }
-        i = e + 1;
     }
+    decls::print::put_end(o < p, out, p)
 }
 
 // Writes a store as a declaration: its indent, `let `, the rest of it, and an LF.
