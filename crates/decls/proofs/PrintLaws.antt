@@ -4,14 +4,14 @@ use mathlib.Core.Path.{◌≡◌, refl, sym, ap, ◌∙◌}
 use mathlib.Core.Bool.{Bool, true, false}
 use mathlib.Core.List.{List, [], ◌∷◌, ◌++◌, append_assoc, append-nil}
 use native.Mathlib.Omega.{arith}
-use borrow.Author.Tests.{lt-ltb, le-ltb, ltb-true, ltb-false}
+use borrow.Author.Tests.{lt-ltb, le-ltb}
 use lib.Dec.{ltb}
 use lib.ListN.{length, take, drop, length-append, length-drop, take-append-drop}
 use lib.Seq.{take-append_seam}
-use Rattle.lines.specs.Lf.{part, up_to, parts_of, unlines}
+use Rattle.lines.specs.Lf.{part, unlines}
 use Rattle.lines.specs.Acts.{act}
 use Rattle.lines.specs.Inner.Out.{Wrote}
-use Rattle.lines.proofs.LfLaws.{parts_at, parts-at-end, rest_of}
+use Rattle.lines.proofs.LfLaws.{rest_of}
 use Rattle.lines.proofs.OutLaws.{Writing, writing_start, writing-as, writing-room, writing-put, writing-end}
 use Rattle.text.specs.Trim.{trim_of}
 use Rattle.names.specs.Names.{decimal}
@@ -188,66 +188,6 @@ kept_cons f k p ps = refl
 kept-none : (f : List ℕ → Bool) (k : ℕ) → kept f k [] ≡ []
 unfolding kept
 kept-none f k = refl
-
--- the loop that writes a declaration: of its text, the pieces from i on are still to come
-pub record DeclInv (f : List ℕ → Bool) (k : ℕ) (indent body d₀ d : List ℕ) (o i p : ℕ) : Type 0 where
-  pub i≤ : i ≤ length body
-  pub writing : Writing o (decl_text indent (kept f k (parts_of 44 body)) false) (decl_text indent (kept f k (parts_of 44 (drop i body))) (ltb o p)) d₀ d p
-
-pub decl-start : (f : List ℕ → Bool) (k : ℕ) (indent body d : List ℕ) (o : ℕ) → o + length (decl_text indent (kept f k (parts_of 44 body)) false) ≤ length d → DeclInv f k indent body d d o 0 o
-decl-start f k indent body d o h = record {
-  i≤ = omega arith;
-  writing = writing-as (ap (λ (b : Bool). decl_text indent (kept f k (parts_of 44 body)) b) (sym (le-ltb o o (omega arith)))) (writing_start o (decl_text indent (kept f k (parts_of 44 body)) false) d h);
-}
-
-module _ {f : List ℕ → Bool} {k : ℕ} {indent body d₀ d : List ℕ} {o i p : ℕ} (h : DeclInv f k indent body d₀ d o i p)
-    (e : ℕ) (q : e ≡ i + up_to 44 (drop i body)) (t : List ℕ) (z : t ≡ trim_of (part i e body)) (s : Bool) (y : s ≡ f t) where
-  one-is : one (f (trim_of (part i e body))) k (trim_of (part i e body)) ≡ one s k t
-  one-is = rw (← z, ← y)
-
-  kept_more : e < length body → kept f k (parts_of 44 (drop i body)) ≡ one s k t ++ kept f k (parts_of 44 (drop (e + 1) body))
-  kept_more l =
-      ap (kept f k) (parts_at 44 body i e h.i≤ q l) ∙ kept_cons f k (part i e body) (parts_of 44 (drop (e + 1) body))
-      ∙ ap (λ (r : List (List ℕ)). r ++ kept f k (parts_of 44 (drop (e + 1) body))) one-is
-
-  kept-last : length body ≤ e → kept f k (parts_of 44 (drop i body)) ≡ one s k t ++ []
-  kept-last l =
-      ap (kept f k) (parts-at-end 44 body i e h.i≤ q l) ∙ kept_cons f k (part i e body) []
-      ∙ ap (λ (r : List (List ℕ)). one (f (trim_of (part i e body))) k (trim_of (part i e body)) ++ r) (kept-none f k)
-      ∙ ap (λ (r : List (List ℕ)). r ++ []) one-is
-
-  -- what is still to come is this piece, and then the rest
-  writing-by : (xs : List (List ℕ)) → kept f k (parts_of 44 (drop i body)) ≡ one s k t ++ xs →
-      Writing o (decl_text indent (kept f k (parts_of 44 body)) false) (named indent (one s k t) (ltb o p) ++ decl_text indent xs (some_of (one s k t) (ltb o p))) d₀ d p
-  writing-by xs g = writing-as (ap (λ (r : List (List ℕ)). decl_text indent r (ltb o p)) g ∙ text-append indent (one s k t) xs (ltb o p)) h.writing
-
-  pub decl-room : p + length (named indent (one s k t) (ltb o p)) ≤ length d
-  decl-room = go (ltb e (length body)) refl
-    where
-      go : (b : Bool) → ltb e (length body) ≡ b → p + length (named indent (one s k t) (ltb o p)) ≤ length d
-      go true l = writing-fits (named indent (one s k t) (ltb o p)) _ (writing-by (kept f k (parts_of 44 (drop (e + 1) body))) (kept_more (ltb-true e (length body) l)))
-      go false l = writing-fits (named indent (one s k t) (ltb o p)) _ (writing-by [] (kept-last (ltb-false e (length body) l)))
-
-  module _ {d' : List ℕ} {r : ℕ} (v : Wrote d p (named indent (one s k t) (ltb o p)) d' r) where
-    went : some_of (one s k t) (ltb o p) ≡ ltb o r
-    went = some_after indent (one s k t) o p r (omega (arith, h.writing.wrote.place)) v.place
-
-    pub decl-on : e < length body → DeclInv f k indent body d₀ d' o (e + 1) r
-    decl-on l = record {
-      i≤ = omega arith;
-      writing = writing-as (ap (λ (b : Bool). decl_text indent (kept f k (parts_of 44 (drop (e + 1) body))) b) went)
-          (writing-put (writing-by (kept f k (parts_of 44 (drop (e + 1) body))) (kept_more l)) v);
-    }
-
-    -- after the last piece only the end is to come
-    at-end : length body ≤ e → Writing o (decl_text indent (kept f k (parts_of 44 body)) false) (end_of (ltb o r) ++ []) d₀ d' r
-    at-end l = writing-as (text-none indent (some_of (one s k t) (ltb o p)) ∙ ap end_of went ∙ sym (append-nil (end_of (ltb o r)))) (writing-put (writing-by [] (kept-last l)) v)
-
-    pub decl-end-room : length body ≤ e → r + length (end_of (ltb o r)) ≤ length d'
-    decl-end-room l = writing-fits (end_of (ltb o r)) [] (at-end l)
-
-    pub decl-end : {d'' : List ℕ} {u : ℕ} → length body ≤ e → Wrote d' r (end_of (ltb o r)) d'' u → Wrote d₀ o (decl_text indent (kept f k (parts_of 44 body)) false) d'' u
-    decl-end l w = writing-end (writing-put (at-end l) w)
 
 -- the loop that writes a declaration: of its pieces, those that are left are still to come
 pub record DeclLeft (f : List ℕ → Bool) (k : ℕ) (indent : List ℕ) (all left : List (List ℕ)) (d₀ d : List ℕ) (o p : ℕ) : Type 0 where
