@@ -1,10 +1,13 @@
 -- Each public function of crate lexical: its contract fixes its outcome. Assumes nothing.
+use Prim.Native.Nat.{ℕ}
+use mathlib.Core.List.{List}
 use mathlib.Core.Path.{sym, ◌∙◌}
+use Rattle.lexical.specs.declared.Tail.{Tail}
 use Rattle.lines.proofs.OutLaws.{wrote-once}
 use Rattle.lexical.proofs as lexical
 use Rattle.lexical.specs.contracts as said
 use Rattle.lexical.specs.Inner.Words.{words_left}
-use Rattle.determined.proofs.Outcomes.{Determined, fixed, pair-same}
+use Rattle.determined.proofs.Outcomes.{Determined, fixed, fixed-by, one, more, pair-same}
 
 pub token-at-fixed : Determined said.token_at.ended (λ κs z. z) lexical.token_at.Reads.ensures
 token-at-fixed = fixed lexical.token_at.Reads.Learnt (λ κs a x y l m. l ∙ sym m)
@@ -52,5 +55,5 @@ rest-in-fixed = fixed lexical.rest_in.Reads.Learnt (λ κs a x y l m. l ∙ sym 
 pub idents-each-fixed : Determined said.idents.each.ended (λ κs z. words_left z) lexical.idents.each.Reads.ensures
 idents-each-fixed = fixed lexical.idents.each.Reads.Learnt (λ κs a x y l m. l ∙ sym m)
 
-pub tokens-each-fixed : Determined said.tokens.each.ended (λ κs z. (z.text.now, (z.at, z.tail))) lexical.tokens.each.Reads.ensures
-tokens-each-fixed = fixed lexical.tokens.each.Reads.Learnt (λ κs a x y l m. pair-same (l.0 ∙ sym m.0) (pair-same (l.1.0 ∙ sym m.1.0) (l.1.1 ∙ sym m.1.1)))
+pub tokens-each-fixed : Determined said.tokens.each.ended {X = List ℕ × (ℕ × Tail)} (λ κs z. (z.text.now, (z.at, z.tail))) lexical.tokens.each.Reads.ensures
+tokens-each-fixed = fixed-by lexical.tokens.each.Reads.Learnt (λ w κs a x. more w (more w (one w))) (λ κs a x y l m. pair-same (l.0 ∙ sym m.0) (pair-same (l.1.0 ∙ sym m.1.0) (l.1.1 ∙ sym m.1.1)))

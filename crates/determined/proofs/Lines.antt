@@ -1,10 +1,12 @@
 -- Each public function of crate lines: its contract fixes its outcome. Assumes nothing.
+use Prim.Native.Nat.{ℕ}
+use mathlib.Core.List.{List}
 use mathlib.Core.Path.{refl, sym, ◌∙◌}
 use Rattle.lines.proofs.OutLaws.{wrote-once}
 use Rattle.lines.proofs as lines
 use Rattle.lines.specs.contracts as said
 use Rattle.lines.specs.Inner.Pieces.{pieces_left}
-use Rattle.determined.proofs.Outcomes.{Determined, fixed, pair-same}
+use Rattle.determined.proofs.Outcomes.{Determined, fixed, fixed-by, one, more, pair-same}
 
 pub byte-at-fixed : Determined said.byte_at.ended (λ κs z. z) lines.byte_at.Reads.ensures
 byte-at-fixed = fixed lines.byte_at.Reads.Learnt (λ κs a x y l m. l ∙ sym m)
@@ -79,11 +81,11 @@ pub put-lines-fixed : Determined said.put_lines.ended (λ κs z. z) lines.put_li
 put-lines-fixed = fixed lines.put_lines.Reads.Learnt (λ κs a x y l m. wrote-once l m)
 
 -- the iterators: what they go over, and where they stand
-pub pieces-fixed : Determined said.between.pieces.ended (λ κs z. pieces_left z) lines.between.pieces.Reads.ensures
-pieces-fixed = fixed lines.between.pieces.Reads.Learnt (λ κs a x y l m. l ∙ sym m)
+pub pieces-fixed : Determined said.pieces.ended (λ κs z. pieces_left z) lines.pieces.Reads.ensures
+pieces-fixed = fixed lines.pieces.Reads.Learnt (λ κs a x y l m. l ∙ sym m)
 
-pub each-each-fixed : Determined said.each.each.ended (λ κs z. (z.text.now, z.at)) lines.each.each.Reads.ensures
-each-each-fixed = fixed lines.each.each.Reads.Learnt (λ κs a x y l m. pair-same (l.0 ∙ sym m.0) (l.1 ∙ sym m.1))
+pub each-each-fixed : Determined said.each.each.ended {X = List ℕ × ℕ} (λ κs z. (z.text.now, z.at)) lines.each.each.Reads.ensures
+each-each-fixed = fixed-by lines.each.each.Reads.Learnt (λ w κs a x. more w (one w)) (λ κs a x y l m. pair-same (l.0 ∙ sym m.0) (l.1 ∙ sym m.1))
 
-pub from-fixed : Determined said.each.from.ended (λ κs z. (z.text.now, z.at)) lines.each.from.Reads.ensures
-from-fixed = fixed lines.each.from.Reads.Learnt (λ κs a x y l m. pair-same (l.0 ∙ sym m.0) (l.1 ∙ sym m.1))
+pub from-fixed : Determined said.each.from.ended {X = List ℕ × ℕ} (λ κs z. (z.text.now, z.at)) lines.each.from.Reads.ensures
+from-fixed = fixed-by lines.each.from.Reads.Learnt (λ w κs a x. more w (one w)) (λ κs a x y l m. pair-same (l.0 ∙ sym m.0) (l.1 ∙ sym m.1))
