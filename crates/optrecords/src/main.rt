@@ -19,9 +19,9 @@ const ROOM: usize = MOST + 1;
 
 // Writes what came of a file to standard output.
 fn write_answer(rt: &HostRuntime, answer: Reply, out: &[u8]) -> Result<(), Failure> {
-    match reader::number_of(answer) {
-        0 => host::write(rt, lines::cut(out, 0, reader::count_of(answer))),
-        number => host::write_refused(rt, number, reader::place_of(answer)),
+    match answer {
+        Ok(count) => host::write(rt, lines::cut(out, 0, count)),
+        Err(_) => host::write_refused(rt, reader::number_of(answer), reader::place_of(answer)),
     }
 }
 
@@ -33,9 +33,8 @@ fn answer_to(rt: &HostRuntime, g: Form, file: &[u8]) {
         host::say_failed(rt, b"optrecords", b"write", b"standard output", why);
         return;
     }
-    let number = reader::number_of(answer);
-    if number != 0 {
-        tell::explain(rt, number, reader::place_of(answer));
+    if answer.is_err() {
+        tell::explain(rt, reader::number_of(answer), reader::place_of(answer));
     }
 }
 

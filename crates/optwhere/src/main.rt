@@ -56,10 +56,10 @@ fn behind<'a>(
     room: &'a mut [usize],
 ) -> Option<&'a [usize]> {
     let got = reader::lines_of(reader::form_of(file), file, n, room);
-    let number = reader::number_of(got);
-    if number == 0 {
-        return room.get(..reader::count_of(got));
+    if let Ok(count) = got {
+        return room.get(..count);
     }
+    let number = reader::number_of(got);
     let place = reader::place_of(got);
     match host::write_refused(rt, number, place) {
         Ok(()) => tell::explain(rt, number, place),

@@ -15,11 +15,11 @@ use Rattle.origins.specs.declared.Went.TheVariants.{Equal, Changed, Inside, Away
 use Rattle.origins.specs.Form.{Shape}
 use Rattle.origins.specs.Read.{Said, says, wrong, read_file}
 use Rattle.origins.specs.Answers.{is_in, behind_from, behind}
-use Rattle.reader.specs.declared.Reply.{Reply}
-use Rattle.reader.specs.declared.Reply.TheVariants.{Fine, NoRoom}
-use Rattle.reader.specs.Replies.{check_reply, at_front, wents_in}
+use Rattle.reader.specs.declared.Refusal.TheVariants.{NoRoom}
+use Rattle.std.specs.declared.result.Result.TheVariants.{Ok, Err}
+use Rattle.reader.specs.Replies.{Reply, check_reply, at_front, wents_in}
 use Rattle.reader.specs.Chains.{first_or, firsts_from, next_in, first_in, nexts_from, roomed_chains, chains_by, chains_for, chains_reply, firsts_after, nexts_after, along}
-use Rattle.reader.proofs.Laws.{pass_on, pass-is, is_fine, fine-says}
+use Rattle.reader.proofs.Laws.{is_fine, passed, fine-says}
 
 -- ---- a table of one number
 
@@ -179,26 +179,26 @@ chain-on {ws} {end} {k} {d} {fs} {ns} i j h e w q x gs a b = record {
 -- ---- the answer
 
 module _ (ws : List Went) (fs d : List ℕ) (m : ℕ) (a : m ≡ length ws) where
-  pub chains-short : length d < m → (NoRoom m ≡ chains_reply (roomed_chains (length fs) ws (length d))) × ((fs ≡ firsts_after (roomed_chains (length fs) ws (length d)) fs) × (d ≡ nexts_after (roomed_chains (length fs) ws (length d)) d))
-  chains-short h = rw (lt-ltb (length d) (length ws) (omega arith)) (ap NoRoom a, (refl, refl))
+  pub chains-short : length d < m → (Err (NoRoom m) ≡ chains_reply (roomed_chains (length fs) ws (length d))) × ((fs ≡ firsts_after (roomed_chains (length fs) ws (length d)) fs) × (d ≡ nexts_after (roomed_chains (length fs) ws (length d)) d))
+  chains-short h = rw (lt-ltb (length d) (length ws) (omega arith)) (ap (λ (n : ℕ). Err (NoRoom n)) a, (refl, refl))
 
   pub chains-found : m ≤ length d → (gs ns : List ℕ) → gs ≡ firsts_from m 0 ws 0 (length fs) → ns ≡ at_front (nexts_from m (length fs) 0 ws) d →
-      (Fine m ≡ chains_reply (roomed_chains (length fs) ws (length d))) × ((gs ≡ firsts_after (roomed_chains (length fs) ws (length d)) fs) × (ns ≡ nexts_after (roomed_chains (length fs) ws (length d)) d))
+      (Ok m ≡ chains_reply (roomed_chains (length fs) ws (length d))) × ((gs ≡ firsts_after (roomed_chains (length fs) ws (length d)) fs) × (ns ≡ nexts_after (roomed_chains (length fs) ws (length d)) d))
   chains-found h gs ns p q =
-      rw (le-ltb (length d) (length ws) (omega arith)) (ap Fine (a ∙ sym (nexts-length (length ws) (length fs) 0 ws)), (p ∙ ap (λ (n : ℕ). firsts_from n 0 ws 0 (length fs)) a, q ∙ ap (λ (n : ℕ). at_front (nexts_from n (length fs) 0 ws) d) a))
+      rw (le-ltb (length d) (length ws) (omega arith)) (ap Ok (a ∙ sym (nexts-length (length ws) (length fs) 0 ws)), (p ∙ ap (λ (n : ℕ). firsts_from n 0 ws 0 (length fs)) a, q ∙ ap (λ (n : ℕ). at_front (nexts_from n (length fs) 0 ws) d) a))
 
-module _ (F : Shape) (s fs d : List ℕ) (x y : Reply) (h : x ≡ check_reply (read_file F s)) (e : x ≡ y) where
+module _ (F : Shape) (s fs d : List ℕ) (y : Reply) (h : y ≡ check_reply (read_file F s)) where
   pub chains-refused : is_fine y ≡ false →
-      (pass_on y ≡ chains_reply (chains_for F s (length fs) (length d))) × ((fs ≡ firsts_after (chains_for F s (length fs) (length d)) fs) × (d ≡ nexts_after (chains_for F s (length fs) (length d)) d))
+      (y ≡ chains_reply (chains_for F s (length fs) (length d))) × ((fs ≡ firsts_after (chains_for F s (length fs) (length d)) fs) × (d ≡ nexts_after (chains_for F s (length fs) (length d)) d))
   unfolding chains_for
-  chains-refused f = go (read_file F s) (sym e ∙ h)
+  chains-refused f = go (read_file F s) refl h
     where
-      go : (r : Said) → y ≡ check_reply r →
-          (pass_on y ≡ chains_reply (chains_by (length fs) (length d) r)) × ((fs ≡ firsts_after (chains_by (length fs) (length d) r) fs) × (d ≡ nexts_after (chains_by (length fs) (length d) r) d))
-      go (says ws) z = no (sym f ∙ ap is_fine z)
-      go (wrong c j) z = (ap pass_on z ∙ pass-is c j, (refl, refl))
+      go : (r : Said) → read_file F s ≡ r → y ≡ check_reply r →
+          (y ≡ chains_reply (chains_by (length fs) (length d) r)) × ((fs ≡ firsts_after (chains_by (length fs) (length d) r) fs) × (d ≡ nexts_after (chains_by (length fs) (length d) r) d))
+      go (says ws) e z = no (sym f ∙ ap is_fine z)
+      go (wrong c j) e z = (z ∙ passed F s c j e, (refl, refl))
 
-pub chains-for : (F : Shape) (s : List ℕ) (x : Reply) (m k room : ℕ) → x ≡ check_reply (read_file F s) → x ≡ Fine m → roomed_chains k (wents_in F s) room ≡ chains_for F s k room
+pub chains-for : (F : Shape) (s : List ℕ) (x : Reply) (m k room : ℕ) → x ≡ check_reply (read_file F s) → x ≡ Ok m → roomed_chains k (wents_in F s) room ≡ chains_for F s k room
 unfolding chains_for
 chains-for F s x m k room h e = rw (fine-says F s m (sym e ∙ h)).0
 

@@ -22,15 +22,17 @@ use Rattle.origins.specs.declared.Went.TheVariants.{Away}
 use Rattle.origins.specs.declared.Form.{Form}
 use Rattle.origins.specs.declared.Form.TheVariants as form
 use Rattle.origins.specs.Form.{Shape, form_shape, gone_of, size_of, record_bytes, records_from, file_of}
-use Rattle.origins.specs.Read.{line_in, fate_in, out_in, fault_in, went_in, Said, says, wrong, said_by, read_from, read_file}
+use Rattle.origins.specs.Read.{is_marked, line_in, fate_in, out_in, fault_in, went_in, Said, says, wrong, said_by, read_from, read_file}
 use Rattle.origins.specs.Answers.{is_in, behind_from, behind, roomed_lines, lines_by, lines_for, fits_out, fits, fits_from, unfit, turn_by, turn}
 use Rattle.origins.proofs.RoundTrip.{Good, good_of, record-length, file-length, unsay, never}
-use Rattle.reader.specs.declared.Reply.{Reply}
-use Rattle.reader.specs.declared.Reply.TheVariants.{Fine, Cut, WrongMark, OutOfOrder, UnknownFate, Disagree, Unfit, Short, NoRoom}
-use Rattle.reader.specs.Replies.{reply_number, reply_place, form_in, refusal, check_reply, lines_reply, lines_after, turned_reply, turned_after, wents_from, wents_in}
+use Rattle.std.specs.declared.result.Result.{Result}
+use Rattle.reader.specs.declared.Refusal.{Refusal}
+use Rattle.reader.specs.declared.Refusal.TheVariants.{Cut, WrongMark, OutOfOrder, UnknownFate, Disagree, Unfit, Short, NoRoom}
+use Rattle.std.specs.declared.result.Result.TheVariants.{Ok, Err}
+use Rattle.reader.specs.Replies.{Reply, reply_number, reply_place, form_in, refusal, check_reply, lines_reply, lines_after, turned_reply, turned_after, wents_from, wents_in}
 use Rattle.reader.specs.declared.each.Records.{Records}
 use Rattle.reader.specs.Inner.Each.{left}
-use Rattle.reader.specs.Inner.Walk.{checked_from, one_in}
+use Rattle.reader.specs.Inner.Walk.{checked_from, flaw_by, flaw, one_in}
 
 -- ---- numbers
 
@@ -150,7 +152,7 @@ pub record CheckInv (F : Shape) (s : List ℕ) (i o : ℕ) : Type 0 where
   pub same : check_reply (read_file F s) ≡ checked_from i (read_from F (length s - i) i (drop o s))
 
 checked-start : (r : Said) → check_reply r ≡ checked_from 0 r
-checked-start (says ws) = let q : length ws ≡ 0 + length ws = omega arith in ap Fine q
+checked-start (says ws) = let q : length ws ≡ 0 + length ws = omega arith in ap Ok q
 checked-start (wrong c j) = refl
 
 pub check-start : (F : Shape) (s : List ℕ) → CheckInv F s 0 0
@@ -170,7 +172,7 @@ read_more F n i s h = rw (ne_eqb (length s) 0 (omega arith))
 
 checked-next : (i : ℕ) (w : Went) (r : Said) → checked_from i (said_by 0 i w r) ≡ checked_from (i + 1) r
 unfolding said_by
-checked-next i w (says ws) = let q : i + suc (length ws) ≡ i + 1 + length ws = omega arith in ap Fine q
+checked-next i w (says ws) = let q : i + suc (length ws) ≡ i + 1 + length ws = omega arith in ap Ok q
 checked-next i w (wrong c j) = refl
 
 checked-bad : (c i : ℕ) (w : Went) (r : Said) → (c ≡ 0 → ⊥) → checked_from i (said_by c i w r) ≡ refusal c i
@@ -179,10 +181,10 @@ checked-bad zero i w r h = absurd (h refl)
 checked-bad (suc c) i w r h = refl
 
 module _ {F : Shape} {s : List ℕ} {i o : ℕ} (h : CheckInv F s i o) where
-  pub check-end : length s ≤ o → Fine i ≡ check_reply (read_file F s)
+  pub check-end : length s ≤ o → Ok i ≡ check_reply (read_file F s)
   check-end k =
       let q : i ≡ i + 0 = omega arith in
-      ap Fine q ∙ sym (h.same ∙ ap (λ (t : List ℕ). checked_from i (read_from F (length s - i) i t)) (drop_of_length-le s k) ∙ ap (checked_from i) (read_none F (length s - i) i))
+      ap Ok q ∙ sym (h.same ∙ ap (λ (t : List ℕ). checked_from i (read_from F (length s - i) i t)) (drop_of_length-le s k) ∙ ap (checked_from i) (read_none F (length s - i) i))
 
   module _ (a : o < length s) (c : ℕ) (e : c ≡ fault_in F i (drop o s)) where
     now : check_reply (read_file F s) ≡ checked_from i (said_by c i (went_in F (drop o s)) (read_from F (length s - (i + 1)) (i + 1) (drop (o + size_of F) s)))
@@ -419,20 +421,13 @@ unfolding read_file wents_in
 said-wents F s ws h = wents-said F (length s) 0 s ws h
 
 abbrev pub is_fine : Reply → Bool
-is_fine (Fine n) = true
-is_fine (Cut i) = false
-is_fine (WrongMark i) = false
-is_fine (OutOfOrder i) = false
-is_fine (UnknownFate i) = false
-is_fine (Disagree i) = false
-is_fine (Unfit i) = false
-is_fine (Short i) = false
-is_fine (NoRoom i) = false
+is_fine (Ok n) = true
+is_fine (Err e) = false
 
 not-fine : (c j : ℕ) → is_fine (refusal c j) ≡ false
 not-fine c j = go (eqb c 1) (eqb c 2) (eqb c 3) (eqb c 4) (eqb c 5) (eqb c 6)
   where
-    go : (p q r t u v : Bool) → is_fine (cond p (Cut j) (cond q (WrongMark j) (cond r (OutOfOrder j) (cond t (UnknownFate j) (cond u (Disagree j) (cond v (Unfit j) (Short j))))))) ≡ false
+    go : (p q r t u v : Bool) → is_fine (cond p (Err (Cut j)) (cond q (Err (WrongMark j)) (cond r (Err (OutOfOrder j)) (cond t (Err (UnknownFate j)) (cond u (Err (Disagree j)) (cond v (Err (Unfit j)) (Err (Short j)))))))) ≡ false
     go true q r t u v = refl
     go false true r t u v = refl
     go false false true t u v = refl
@@ -441,70 +436,102 @@ not-fine c j = go (eqb c 1) (eqb c 2) (eqb c 3) (eqb c 4) (eqb c 5) (eqb c 6)
     go false false false false false true = refl
     go false false false false false false = refl
 
-unfine : {m n : ℕ} → Fine m ≡ Fine n → m ≡ n
+unfine : {m n : ℕ} → ◌≡◌ {A = Reply} (Ok m) (Ok n) → m ≡ n
 unfine h = ap out h
   where
     out : Reply → ℕ
-    out (Fine n) = n
-    out (Cut i) = 0
-    out (WrongMark i) = 0
-    out (OutOfOrder i) = 0
-    out (UnknownFate i) = 0
-    out (Disagree i) = 0
-    out (Unfit i) = 0
-    out (Short i) = 0
-    out (NoRoom i) = 0
+    out (Ok n) = n
+    out (Err e) = 0
 
 -- a file that is right says what its whole records say
-pub fine-says : (F : Shape) (s : List ℕ) (m : ℕ) → Fine m ≡ check_reply (read_file F s) → (read_file F s ≡ says (wents_in F s)) × (m ≡ length (wents_in F s))
+pub fine-says : (F : Shape) (s : List ℕ) (m : ℕ) → Ok m ≡ check_reply (read_file F s) → (read_file F s ≡ says (wents_in F s)) × (m ≡ length (wents_in F s))
 unfolding read_file wents_in
 fine-says F s m h = go (read_file F s) refl h
   where
-    go : (r : Said) → read_file F s ≡ r → Fine m ≡ check_reply r → (read_file F s ≡ says (wents_in F s)) × (m ≡ length (wents_in F s))
+    go : (r : Said) → read_file F s ≡ r → Ok m ≡ check_reply r → (read_file F s ≡ says (wents_in F s)) × (m ≡ length (wents_in F s))
     go (says ws) e z =
         let q : wents_in F s ≡ ws = wents-said F (length s) 0 s ws e in
         (e ∙ ap says (sym q), omega (arith, unfine z, ap length q))
     go (wrong c j) e z = no (sym (ap is_fine z ∙ not-fine c j))
 
-abbrev pub pass_on : Reply → Reply
-pass_on (Fine n) = Fine n
-pass_on (Cut i) = Cut i
-pass_on (WrongMark i) = WrongMark i
-pass_on (OutOfOrder i) = OutOfOrder i
-pass_on (UnknownFate i) = UnknownFate i
-pass_on (Disagree i) = Disagree i
-pass_on (Unfit i) = NoRoom i
-pass_on (Short i) = Short i
-pass_on (NoRoom i) = NoRoom i
+-- a record has none of the faults that only the other form and the room have
+no_six : (F : Shape) (i : ℕ) (s : List ℕ) → eqb (fault_in F i s) 6 ≡ false
+unfolding fault_in
+no_six F i s = go (ltb (length s) (size_of F)) (is_marked F s) (eqb (line_in F s) i) (ltb 3 (fate_in F s)) (eqb (fate_in F s) 3) (eqb (out_in F s) (gone_of F))
+  where
+    go : (p q r t u v : Bool) → eqb (cond p 1 (cond (not q) 2 (cond (not r) 3 (cond t 4 (cond u (cond v 0 5) (cond v 5 0)))))) 6 ≡ false
+    go true q r t u v = refl
+    go false false r t u v = refl
+    go false true false t u v = refl
+    go false true true true u v = refl
+    go false true true false true true = refl
+    go false true true false true false = refl
+    go false true true false false true = refl
+    go false true true false false false = refl
 
-pub pass-is : (c j : ℕ) → pass_on (refusal c j) ≡ cond (eqb c 6) (NoRoom j) (refusal c j)
-pass-is zero j = refl
-pass-is (suc zero) j = refl
-pass-is (suc (suc zero)) j = refl
-pass-is (suc (suc (suc zero))) j = refl
-pass-is (suc (suc (suc (suc zero)))) j = refl
-pass-is (suc (suc (suc (suc (suc zero))))) j = refl
-pass-is (suc (suc (suc (suc (suc (suc zero)))))) j = refl
-pass-is (suc (suc (suc (suc (suc (suc (suc c))))))) j = rw (ne_eqb (suc (suc (suc (suc (suc (suc (suc c))))))) 1 (omega arith), ne_eqb (suc (suc (suc (suc (suc (suc (suc c))))))) 2 (omega arith), ne_eqb (suc (suc (suc (suc (suc (suc (suc c))))))) 3 (omega arith), ne_eqb (suc (suc (suc (suc (suc (suc (suc c))))))) 4 (omega arith), ne_eqb (suc (suc (suc (suc (suc (suc (suc c))))))) 5 (omega arith), ne_eqb (suc (suc (suc (suc (suc (suc (suc c))))))) 6 (omega arith))
+no_six_from : (F : Shape) (n i : ℕ) (s : List ℕ) (c j : ℕ) → read_from F n i s ≡ wrong c j → eqb c 6 ≡ false
+unfolding read_from said_by
+no_six_from F zero i s c j h = never (sym h)
+no_six_from F (suc n) i s c j h = go (eqb (length s) 0) (fault_in F i s) (read_from F n (suc i) (drop (size_of F) s)) (no_six F i s) (no_six_from F n (suc i) (drop (size_of F) s) c j) h
+  where
+    go : (b : Bool) (k : ℕ) (r : Said) → eqb k 6 ≡ false → (r ≡ wrong c j → eqb c 6 ≡ false) → cond b (says []) (said_by k i (went_in F s) r) ≡ wrong c j → eqb c 6 ≡ false
+    go true k r e q z = never (sym z)
+    go false zero (says ws) e q z = never (sym z)
+    go false zero (wrong a b) e q z = q z
+    go false (suc k) r e q z = ap (λ (x : ℕ). eqb x 6) (sym (code z)) ∙ e
+      where
+        fault : Said → ℕ
+        fault (says ws) = 0
+        fault (wrong a b) = a
 
-module _ (F : Shape) (s d : List ℕ) (x y : Reply) (h : x ≡ check_reply (read_file F s)) (e : x ≡ y) where
-  pub lines-refused : (n : ℕ) → is_fine y ≡ false → (pass_on y ≡ lines_reply (lines_for F s n (length d))) × (d ≡ lines_after (lines_for F s n (length d)) d)
+        code : wrong (suc k) i ≡ wrong c j → suc k ≡ c
+        code y = ap fault y
+
+-- so a refusal of a file is passed on as it is
+pub passed : (F : Shape) (s : List ℕ) (c j : ℕ) → read_file F s ≡ wrong c j → refusal c j ≡ cond (eqb c 6) (Err (NoRoom j)) (refusal c j)
+unfolding read_file
+passed F s c j h = rw (no_six_from F (length s) 0 s c j h) refl
+
+-- ---- what is said of one record
+
+abbrev back : Result (Unit {0}) Refusal → Reply
+back (Ok u) = Ok 0
+back (Err e) = Err e
+
+pub flaw-none : (c i : ℕ) → Ok tt ≡ flaw c i → c ≡ 0
+flaw-none zero i h = refl
+flaw-none (suc c) i h = go (refusal (suc c) i) (not-fine (suc c) i) h
+  where
+    go : (r : Reply) → is_fine r ≡ false → Ok tt ≡ flaw_by r → suc c ≡ 0
+    go (Ok n) f z = no (sym f)
+    go (Err d) f z = no (sym (ap is_fine (ap back z)))
+
+pub flaw-some : (c i : ℕ) (e : Refusal) → Err e ≡ flaw c i → (c ≡ 0 → ⊥) × (◌≡◌ {A = Reply} (Err e) (refusal c i))
+flaw-some zero i e h = no (ap is_fine (ap back h))
+flaw-some (suc c) i e h = (λ z. omega (arith, z), go (refusal (suc c) i) h)
+  where
+    go : (r : Reply) → Err e ≡ flaw_by r → ◌≡◌ {A = Reply} (Err e) r
+    go (Ok n) z = no (ap is_fine (ap back z))
+    go (Err d) z = ap back z
+
+module _ (F : Shape) (s d : List ℕ) (y : Reply) (h : y ≡ check_reply (read_file F s)) where
+  pub lines-refused : (n : ℕ) → is_fine y ≡ false → (y ≡ lines_reply (lines_for F s n (length d))) × (d ≡ lines_after (lines_for F s n (length d)) d)
   unfolding lines_for
-  lines-refused n f = go (read_file F s) (sym e ∙ h)
+  lines-refused n f = go (read_file F s) refl h
     where
-      go : (r : Said) → y ≡ check_reply r → (pass_on y ≡ lines_reply (lines_by n (length d) r)) × (d ≡ lines_after (lines_by n (length d) r) d)
-      go (says ws) z = no (sym f ∙ ap is_fine z)
-      go (wrong c j) z = (ap pass_on z ∙ pass-is c j, refl)
+      go : (r : Said) → read_file F s ≡ r → y ≡ check_reply r → (y ≡ lines_reply (lines_by n (length d) r)) × (d ≡ lines_after (lines_by n (length d) r) d)
+      go (says ws) e z = no (sym f ∙ ap is_fine z)
+      go (wrong c j) e z = (z ∙ passed F s c j e, refl)
 
   pub turn-refused : (G : Shape) → is_fine y ≡ false → (y ≡ turned_reply (turn F G s (length d))) × (d ≡ turned_after (turn F G s (length d)) d)
   unfolding turn
-  turn-refused G f = go (read_file F s) (sym e ∙ h)
+  turn-refused G f = go (read_file F s) h
     where
       go : (r : Said) → y ≡ check_reply r → (y ≡ turned_reply (turn_by G (length d) r)) × (d ≡ turned_after (turn_by G (length d) r) d)
       go (says ws) z = no (sym f ∙ ap is_fine z)
       go (wrong c j) z = (z, refl)
 
-pub lines-for : (F : Shape) (s : List ℕ) (x : Reply) (m n room : ℕ) → x ≡ check_reply (read_file F s) → x ≡ Fine m → roomed_lines (behind n (wents_in F s)) room ≡ lines_for F s n room
+pub lines-for : (F : Shape) (s : List ℕ) (x : Reply) (m n room : ℕ) → x ≡ check_reply (read_file F s) → x ≡ Ok m → roomed_lines (behind n (wents_in F s)) room ≡ lines_for F s n room
 unfolding lines_for
 lines-for F s x m n room h e = rw (fine-says F s m (sym e ∙ h)).0
 
@@ -515,11 +542,11 @@ unfolding put_at
 front d xs d' r w = let q : 0 + length xs ≡ length xs = omega arith in w.holds ∙ ap (λ (n : ℕ). xs ++ drop n d) q
 
 module _ (ls d : List ℕ) where
-  pub answer-short : (k : ℕ) → k ≡ length ls → length d < k → (NoRoom k ≡ lines_reply (roomed_lines ls (length d))) × (d ≡ lines_after (roomed_lines ls (length d)) d)
-  answer-short k e h = rw (lt-ltb (length d) (length ls) (omega arith)) (ap NoRoom e, refl)
+  pub answer-short : (k : ℕ) → k ≡ length ls → length d < k → (Err (NoRoom k) ≡ lines_reply (roomed_lines ls (length d))) × (d ≡ lines_after (roomed_lines ls (length d)) d)
+  answer-short k e h = rw (lt-ltb (length d) (length ls) (omega arith)) (ap (λ (n : ℕ). Err (NoRoom n)) e, refl)
 
-  pub answer-found : (d' : List ℕ) (k m : ℕ) → k ≡ length ls → k ≤ length d → Wrote d 0 ls d' m → (Fine m ≡ lines_reply (roomed_lines ls (length d))) × (d' ≡ lines_after (roomed_lines ls (length d)) d)
-  answer-found d' k m e h w = let q : m ≡ length ls = omega (arith, w.place) in rw (le-ltb (length d) (length ls) (omega arith)) (ap Fine q, front d ls d' m w)
+  pub answer-found : (d' : List ℕ) (k m : ℕ) → k ≡ length ls → k ≤ length d → Wrote d 0 ls d' m → (Ok m ≡ lines_reply (roomed_lines ls (length d))) × (d' ≡ lines_after (roomed_lines ls (length d)) d)
+  answer-found d' k m e h w = let q : m ≡ length ls = omega (arith, w.place) in rw (le-ltb (length d) (length ls) (omega arith)) (ap Ok q, front d ls d' m w)
 
 -- ---- the other form
 
@@ -650,28 +677,28 @@ count_small f g s m z e q = by f g (wents-length (form_shape f) (length s) s) q
     by form.Om form.Ol h r = let t : z ≡ 7 = r in rw t (omega arith)
     by form.Om form.Om h r = let t : z ≡ 11 = r in rw t (omega arith)
 
-pub turn-for : (F G : Shape) (s : List ℕ) (x : Reply) (m room : ℕ) → x ≡ check_reply (read_file F s) → x ≡ Fine m → turn_by G room (says (wents_in F s)) ≡ turn F G s room
+pub turn-for : (F G : Shape) (s : List ℕ) (x : Reply) (m room : ℕ) → x ≡ check_reply (read_file F s) → x ≡ Ok m → turn_by G room (says (wents_in F s)) ≡ turn F G s room
 unfolding turn
 turn-for F G s x m room h e = rw (fine-says F s m (sym e ∙ h)).0
 
 module _ (G : Shape) (ws : List Went) (d : List ℕ) (m u : ℕ) (a : m ≡ length ws) (b : u ≡ unfit G 0 ws) where
-  pub turn-unfit : u < m → (Unfit u ≡ turned_reply (turn_by G (length d) (says ws))) × (d ≡ turned_after (turn_by G (length d) (says ws)) d)
-  turn-unfit h = rw (unfit-here G 0 ws (omega arith)) (ap Unfit b, refl)
+  pub turn-unfit : u < m → (Err (Unfit u) ≡ turned_reply (turn_by G (length d) (says ws))) × (d ≡ turned_after (turn_by G (length d) (says ws)) d)
+  turn-unfit h = rw (unfit-here G 0 ws (omega arith)) (ap (λ (n : ℕ). Err (Unfit n)) b, refl)
 
   module _ (h : m ≤ u) (z : ℕ) (c : z ≡ size_of G) where
     size_is : z * m ≡ size_of G * length ws
     size_is = ap (λ (y : ℕ). y * m) c ∙ ap (λ (y : ℕ). size_of G * y) a
 
-    pub turn-short : length d < z * m → (Short (z * m) ≡ turned_reply (turn_by G (length d) (says ws))) × (d ≡ turned_after (turn_by G (length d) (says ws)) d)
-    turn-short k = rw (unfit-nowhere G 0 ws (omega arith), lt-ltb (length d) (size_of G * length ws) (subst (λ (y : ℕ). length d < y) size_is k)) (ap Short size_is, refl)
+    pub turn-short : length d < z * m → (Err (Short (z * m)) ≡ turned_reply (turn_by G (length d) (says ws))) × (d ≡ turned_after (turn_by G (length d) (says ws)) d)
+    turn-short k = rw (unfit-nowhere G 0 ws (omega arith), lt-ltb (length d) (size_of G * length ws) (subst (λ (y : ℕ). length d < y) size_is k)) (ap (λ (n : ℕ). Err (Short n)) size_is, refl)
 
     pub turn-room : z * m ≤ length d → length (file_of G ws) ≤ length d
     turn-room k = subst (λ (y : ℕ). y ≤ length d) (size_is ∙ sym (file-length G ws)) k
 
-    pub turn-done : z * m ≤ length d → (d' : List ℕ) (r : ℕ) → Wrote d 0 (file_of G ws) d' r → (Fine r ≡ turned_reply (turn_by G (length d) (says ws))) × (d' ≡ turned_after (turn_by G (length d) (says ws)) d)
+    pub turn-done : z * m ≤ length d → (d' : List ℕ) (r : ℕ) → Wrote d 0 (file_of G ws) d' r → (Ok r ≡ turned_reply (turn_by G (length d) (says ws))) × (d' ≡ turned_after (turn_by G (length d) (says ws)) d)
     turn-done k d' r w =
         let q : r ≡ length (file_of G ws) = omega (arith, w.place) in
-        rw (unfit-nowhere G 0 ws (omega arith), le-ltb (length d) (size_of G * length ws) (subst (λ (y : ℕ). y ≤ length d) size_is k)) (ap Fine q, front d (file_of G ws) d' r w)
+        rw (unfit-nowhere G 0 ws (omega arith), le-ltb (length d) (size_of G * length ws) (subst (λ (y : ℕ). y ≤ length d) size_is k)) (ap Ok q, front d (file_of G ws) d' r w)
 
 -- ---- numbers and places
 

@@ -15,18 +15,18 @@ use Rattle.origins.specs.Read.{read_file}
 use Rattle.origins.specs.Answers.{behind_from, behind, lines_by, lines_for, found, refused, denied, fits_from}
 use Rattle.origins.proofs.RoundTrip.{bytes, read-file, write-file}
 use Rattle.origins.proofs.Behind.{behind-gone}
-use Rattle.reader.specs.declared.Reply.TheVariants.{Fine}
+use Rattle.std.specs.declared.result.Result.TheVariants.{Ok}
 use Rattle.reader.specs.Replies.{reply_number, reply_place, form_in, lines_reply, check_reply, wents_in, turned_reply}
 use Rattle.reader.specs.Chains.{firsts_from, nexts_from}
 use Rattle.reader.proofs.Laws.{said-wents, fine-says}
 
 -- What was written is read: as many records, and the same
-pub read-back : (F : Shape) (ws : List Went) → fits_from F 0 ws ≡ true → (check_reply (read_file F (file_of F ws)) ≡ Fine (length ws)) × (wents_in F (file_of F ws) ≡ ws)
+pub read-back : (F : Shape) (ws : List Went) → fits_from F 0 ws ≡ true → (check_reply (read_file F (file_of F ws)) ≡ Ok (length ws)) × (wents_in F (file_of F ws) ≡ ws)
 read-back F ws h =
     (ap check_reply (read-file F ws h), said-wents F (file_of F ws) ws (read-file F ws h))
 
 -- The number that stands for gone gets no lines
-pub gone-lines : (F : Shape) (s : List ℕ) (m room : ℕ) → bytes s ≡ true → Fine m ≡ check_reply (read_file F s) → lines_for F s (gone_of F) room ≡ found []
+pub gone-lines : (F : Shape) (s : List ℕ) (m room : ℕ) → bytes s ≡ true → Ok m ≡ check_reply (read_file F s) → lines_for F s (gone_of F) room ≡ found []
 unfolding lines_for behind
 gone-lines F s m room b h =
     let q = (fine-says F s m h).0 in

@@ -6,9 +6,9 @@ use Rattle.origins.specs.declared.Went.TheVariants.{Equal, Changed, Inside, Away
 use Rattle.origins.specs.Form.{Shape}
 use Rattle.origins.specs.Read.{Said, says, wrong, read_file}
 use Rattle.origins.specs.Answers.{behind_from}
-use Rattle.reader.specs.declared.Reply.{Reply}
-use Rattle.reader.specs.declared.Reply.TheVariants.{Fine, NoRoom}
-use Rattle.reader.specs.Replies.{refusal, at_front}
+use Rattle.reader.specs.declared.Refusal.TheVariants.{NoRoom}
+use Rattle.std.specs.declared.result.Result.TheVariants.{Ok, Err}
+use Rattle.reader.specs.Replies.{Reply, refusal, at_front}
 
 -- the first of lines; `end` where there are none
 abbrev pub first_or : ℕ → List ℕ → ℕ
@@ -61,8 +61,8 @@ chains_for F s m room = chains_by m room (read_file F s)
 
 -- how many lines there are
 abbrev pub chains_reply : Chains → Reply
-chains_reply (chained fs ns) = Fine (length ns)
-chains_reply (unchained c i) = cond (eqb c 6) (NoRoom i) (refusal c i)
+chains_reply (chained fs ns) = Ok (length ns)
+chains_reply (unchained c i) = cond (eqb c 6) (Err (NoRoom i)) (refusal c i)
 
 -- what stands in the two tables afterwards
 abbrev pub firsts_after : Chains → List ℕ → List ℕ

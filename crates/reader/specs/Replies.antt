@@ -7,54 +7,53 @@ use Rattle.origins.specs.declared.Form.TheVariants.{Ol, Om}
 use Rattle.origins.specs.Form.{Shape, size_of}
 use Rattle.origins.specs.Read.{went_in, Said, says, wrong}
 use Rattle.origins.specs.Answers.{Lines, found, refused, Turned, turned, denied}
-use Rattle.reader.specs.declared.Reply.{Reply}
-use Rattle.reader.specs.declared.Reply.TheVariants.{Fine, Cut, WrongMark, OutOfOrder, UnknownFate, Disagree, Unfit, Short, NoRoom}
+use Rattle.std.specs.declared.result.Result.{Result}
+use Rattle.reader.specs.declared.Refusal.{Refusal}
+use Rattle.reader.specs.declared.Refusal.TheVariants.{Cut, WrongMark, OutOfOrder, UnknownFate, Disagree, Unfit, Short, NoRoom}
+use Rattle.std.specs.declared.result.Result.TheVariants.{Ok, Err}
+
+-- what is answered: how much there is, or why there is nothing
+abbrev pub Reply : Type 0
+Reply = Result ℕ Refusal
 
 -- the number of an answer, and its place: the record, or how much room is needed
 abbrev pub reply_number : Reply → ℕ
-reply_number (Fine i) = 0
-reply_number (Cut i) = 1
-reply_number (WrongMark i) = 2
-reply_number (OutOfOrder i) = 3
-reply_number (UnknownFate i) = 4
-reply_number (Disagree i) = 5
-reply_number (Unfit i) = 6
-reply_number (Short i) = 7
-reply_number (NoRoom i) = 6
+reply_number (Ok i) = 0
+reply_number (Err (Cut i)) = 1
+reply_number (Err (WrongMark i)) = 2
+reply_number (Err (OutOfOrder i)) = 3
+reply_number (Err (UnknownFate i)) = 4
+reply_number (Err (Disagree i)) = 5
+reply_number (Err (Unfit i)) = 6
+reply_number (Err (Short i)) = 7
+reply_number (Err (NoRoom i)) = 6
 
 abbrev pub reply_place : Reply → ℕ
-reply_place (Fine i) = 0
-reply_place (Cut i) = i
-reply_place (WrongMark i) = i
-reply_place (OutOfOrder i) = i
-reply_place (UnknownFate i) = i
-reply_place (Disagree i) = i
-reply_place (Unfit i) = i
-reply_place (Short i) = i
-reply_place (NoRoom i) = i
+reply_place (Ok i) = 0
+reply_place (Err (Cut i)) = i
+reply_place (Err (WrongMark i)) = i
+reply_place (Err (OutOfOrder i)) = i
+reply_place (Err (UnknownFate i)) = i
+reply_place (Err (Disagree i)) = i
+reply_place (Err (Unfit i)) = i
+reply_place (Err (Short i)) = i
+reply_place (Err (NoRoom i)) = i
 
 -- how much there is: records, lines or bytes
 abbrev pub reply_count : Reply → ℕ
-reply_count (Fine i) = i
-reply_count (Cut i) = 0
-reply_count (WrongMark i) = 0
-reply_count (OutOfOrder i) = 0
-reply_count (UnknownFate i) = 0
-reply_count (Disagree i) = 0
-reply_count (Unfit i) = 0
-reply_count (Short i) = 0
-reply_count (NoRoom i) = 0
+reply_count (Ok i) = i
+reply_count (Err e) = 0
 
 -- a refusal by its number: 1 to 5 of the file, 6 a record that the other form cannot write, 7 too little room
 abbrev pub refusal : ℕ → ℕ → Reply
 refusal c i =
-    cond (eqb c 1) (Cut i)
-    (cond (eqb c 2) (WrongMark i)
-    (cond (eqb c 3) (OutOfOrder i)
-    (cond (eqb c 4) (UnknownFate i)
-    (cond (eqb c 5) (Disagree i)
-    (cond (eqb c 6) (Unfit i)
-    (Short i))))))
+    cond (eqb c 1) (Err (Cut i))
+    (cond (eqb c 2) (Err (WrongMark i))
+    (cond (eqb c 3) (Err (OutOfOrder i))
+    (cond (eqb c 4) (Err (UnknownFate i))
+    (cond (eqb c 5) (Err (Disagree i))
+    (cond (eqb c 6) (Err (Unfit i))
+    (Err (Short i)))))))
 
 -- lent memory d with xs at its front, the rest as it was
 abbrev pub at_front : List ℕ → List ℕ → List ℕ
@@ -62,13 +61,13 @@ at_front xs d = xs ++ drop (length xs) d
 
 -- the check: how many records
 abbrev pub check_reply : Said → Reply
-check_reply (says ws) = Fine (length ws)
+check_reply (says ws) = Ok (length ws)
 check_reply (wrong c i) = refusal c i
 
 -- the lines behind an output line: how many; 6 is too little room
 abbrev pub lines_reply : Lines → Reply
-lines_reply (found ls) = Fine (length ls)
-lines_reply (refused c i) = cond (eqb c 6) (NoRoom i) (refusal c i)
+lines_reply (found ls) = Ok (length ls)
+lines_reply (refused c i) = cond (eqb c 6) (Err (NoRoom i)) (refusal c i)
 
 abbrev pub lines_after : Lines → List ℕ → List ℕ
 lines_after (found ls) d = at_front ls d
@@ -76,7 +75,7 @@ lines_after (refused c i) d = d
 
 -- the other form: how many bytes
 abbrev pub turned_reply : Turned → Reply
-turned_reply (turned t) = Fine (length t)
+turned_reply (turned t) = Ok (length t)
 turned_reply (denied c i) = refusal c i
 
 abbrev pub turned_after : Turned → List ℕ → List ℕ

@@ -4,20 +4,20 @@
 mod each;
 
 ghost use Rattle.std.specs.Prelude.{◌≡◌, ◌≤◌, ◌<◌, ◌+◌, ◌*◌, length, get_or, set, take, drop};
+ghost use Rattle.std.specs.declared.result.Result.TheVariants.{Err};
 ghost use Rattle.lines.specs.Lf.{word};
 ghost use Rattle.lines.specs.Inner.Out.{Wrote};
 ghost use Rattle.origins.specs.declared.Went.TheVariants.{Away};
 ghost use Rattle.origins.specs.Form.{form_shape, size_of, file_of};
 ghost use Rattle.origins.specs.Read.{line_in, fate_in, out_in, fault_in, went_by, went_in, says, read_file};
 ghost use Rattle.origins.specs.Answers.{is_in, behind, roomed_lines, lines_for, fits, unfit, turn_by, turn};
-ghost use Rattle.reader.specs.Replies.{reply_number, reply_place, reply_count, form_in, refusal, check_reply, at_front, lines_reply, lines_after, turned_reply, turned_after, wents_in};
+ghost use Rattle.reader.specs.Replies.{reply_number, reply_place, reply_count, form_in, check_reply, at_front, lines_reply, lines_after, turned_reply, turned_after, wents_in};
 ghost use Rattle.reader.specs.Chains.{firsts_from, next_in, first_in, nexts_from, roomed_chains, chains_for, chains_reply, firsts_after, nexts_after};
-ghost use Rattle.reader.specs.Inner.Walk.{one_in};
+ghost use Rattle.reader.specs.Inner.Walk.{flaw, one_in};
 
-// What is answered: how much there is, or why there is nothing, with the record, or the room that is needed.
+// Why there is nothing, with the record, or the room that is needed.
 #[derive(Clone, Copy)]
-pub enum Reply {
-    Fine(usize),
+pub enum Refusal {
     Cut(usize),
     WrongMark(usize),
     OutOfOrder(usize),
@@ -28,20 +28,47 @@ pub enum Reply {
     NoRoom(usize),
 }
 
+// What is answered: how much there is, or why there is nothing.
+pub type Reply = Result<usize, Refusal>;
+
+// The number of the check that refused.
+fn check_of(e: Refusal) -> u8
+    ensures { result ≡ reply_number (Err e) }
+{
+    match e {
+        Refusal::Cut(_) => 1,
+        Refusal::WrongMark(_) => 2,
+        Refusal::OutOfOrder(_) => 3,
+        Refusal::UnknownFate(_) => 4,
+        Refusal::Disagree(_) => 5,
+        Refusal::Unfit(_) | Refusal::NoRoom(_) => 6,
+        Refusal::Short(_) => 7,
+    }
+}
+
 // The number of an answer: 0, or that of the check that refused.
 pub fn number_of(r: Reply) -> u8
     ensures { result ≡ reply_number r }
 {
     match r {
-        Reply::Fine(i) => 0,
-        Reply::Cut(i) => 1,
-        Reply::WrongMark(i) => 2,
-        Reply::OutOfOrder(i) => 3,
-        Reply::UnknownFate(i) => 4,
-        Reply::Disagree(i) => 5,
-        Reply::Unfit(i) => 6,
-        Reply::Short(i) => 7,
-        Reply::NoRoom(i) => 6,
+        Ok(_) => 0,
+        Err(e) => check_of(e),
+    }
+}
+
+// The record that was refused, or how much room is needed.
+fn refused_at(e: Refusal) -> usize
+    ensures { result ≡ reply_place (Err e) }
+{
+    match e {
+        Refusal::Cut(i)
+        | Refusal::WrongMark(i)
+        | Refusal::OutOfOrder(i)
+        | Refusal::UnknownFate(i)
+        | Refusal::Disagree(i)
+        | Refusal::Unfit(i)
+        | Refusal::Short(i)
+        | Refusal::NoRoom(i) => i,
     }
 }
 
@@ -50,15 +77,8 @@ pub fn place_of(r: Reply) -> usize
     ensures { result ≡ reply_place r }
 {
     match r {
-        Reply::Fine(i) => 0,
-        Reply::Cut(i) => i,
-        Reply::WrongMark(i) => i,
-        Reply::OutOfOrder(i) => i,
-        Reply::UnknownFate(i) => i,
-        Reply::Disagree(i) => i,
-        Reply::Unfit(i) => i,
-        Reply::Short(i) => i,
-        Reply::NoRoom(i) => i,
+        Ok(_) => 0,
+        Err(e) => refused_at(e),
     }
 }
 
@@ -67,15 +87,8 @@ pub fn count_of(r: Reply) -> usize
     ensures { result ≡ reply_count r }
 {
     match r {
-        Reply::Fine(i) => i,
-        Reply::Cut(i) => 0,
-        Reply::WrongMark(i) => 0,
-        Reply::OutOfOrder(i) => 0,
-        Reply::UnknownFate(i) => 0,
-        Reply::Disagree(i) => 0,
-        Reply::Unfit(i) => 0,
-        Reply::Short(i) => 0,
-        Reply::NoRoom(i) => 0,
+        Ok(n) => n,
+        Err(_) => 0,
     }
 }
 
@@ -139,67 +152,42 @@ fn out_at(f: origins::Form, s: &[u8], o: usize) -> usize
     number_at(f, s, o + 3 + w)
 }
 
-// What is wrong with the record of line `i` at `o`: 0, nothing; else the number of the first check that fails.
-fn fault_at(f: origins::Form, s: &[u8], i: usize, o: usize) -> u8
+// What is wrong with the record of line `i` at `o`, by the first check that fails.
+fn fault_at(f: origins::Form, s: &[u8], i: usize, o: usize) -> Result<(), Refusal>
     requires { o ≤ length s.now }
-    ensures { result ≡ fault_in (form_shape f) i (drop o s.now) }
+    ensures { result ≡ flaw (fault_in (form_shape f) i (drop o s.now)) i }
 {
     let z = origins::size_of(f);
     if s.len() - o < z {
-        return 1;
+        return Err(Refusal::Cut(i));
     }
     if s[o] != origins::MARK {
-        return 2;
+        return Err(Refusal::WrongMark(i));
     }
     let l = origins::letter_of(f);
     if s[o + 1] != l {
-        return 2;
+        return Err(Refusal::WrongMark(i));
     }
     let j = line_at(f, s, o);
     if j != i {
-        return 3;
+        return Err(Refusal::OutOfOrder(i));
     }
     let k = fate_at(f, s, o);
     if k > origins::GONE {
-        return 4;
+        return Err(Refusal::UnknownFate(i));
     }
     let n = out_at(f, s, o);
     let g = origins::gone_of(f);
     if k == origins::GONE {
         if n == g {
-            return 0;
+            return Ok(());
         }
-        return 5;
+        return Err(Refusal::Disagree(i));
     }
     if n == g {
-        return 5;
+        return Err(Refusal::Disagree(i));
     }
-    0
-}
-
-// The refusal of a number.
-fn refusal_of(c: u8, i: usize) -> Reply
-    ensures { result ≡ refusal c i }
-{
-    if c == 1 {
-        return Reply::Cut(i);
-    }
-    if c == 2 {
-        return Reply::WrongMark(i);
-    }
-    if c == 3 {
-        return Reply::OutOfOrder(i);
-    }
-    if c == 4 {
-        return Reply::UnknownFate(i);
-    }
-    if c == 5 {
-        return Reply::Disagree(i);
-    }
-    if c == 6 {
-        return Reply::Unfit(i);
-    }
-    Reply::Short(i)
+    Ok(())
 }
 
 // Checks a file: how many records it has, or what is wrong with the first that is wrong.
@@ -211,14 +199,11 @@ pub fn check(f: origins::Form, file: &[u8]) -> Reply
     let mut o = 0;
     // Kept: the place moves by the size of a record, and the bytes of a last record that is cut are looked at too.
     while o < file.len() {
-        let c = fault_at(f, file, i, o);
-        if c != 0 {
-            return refusal_of(c, i);
-        }
+        fault_at(f, file, i, o)?;
         i += 1;
         o += z;
     }
-    Reply::Fine(i)
+    Ok(i)
 }
 
 // What is said by a fate and an output line.
@@ -308,10 +293,10 @@ fn answer_lines(f: origins::Form, file: &[u8], n: usize, room: &mut [usize]) -> 
 {
     let k = count_behind(f, file, n);
     if room.len() < k {
-        return Reply::NoRoom(k);
+        return Err(Refusal::NoRoom(k));
     }
     let m = put_behind(f, file, n, room);
-    Reply::Fine(m)
+    Ok(m)
 }
 
 // Writes the lines that are in output line `n` of a file, ascending, and answers how many.
@@ -319,17 +304,8 @@ pub fn lines_of(f: origins::Form, file: &[u8], n: usize, room: &mut [usize]) -> 
     ensures answer { result ≡ lines_reply (lines_for (form_shape f) file.now n (length room.old)) }
     ensures memory { room.new ≡ lines_after (lines_for (form_shape f) file.now n (length room.old)) room.old }
 {
-    match check(f, file) {
-        Reply::Fine(m) => answer_lines(f, file, n, room),
-        Reply::Cut(at) => Reply::Cut(at),
-        Reply::WrongMark(at) => Reply::WrongMark(at),
-        Reply::OutOfOrder(at) => Reply::OutOfOrder(at),
-        Reply::UnknownFate(at) => Reply::UnknownFate(at),
-        Reply::Disagree(at) => Reply::Disagree(at),
-        Reply::Unfit(at) => Reply::NoRoom(at),
-        Reply::Short(at) => Reply::Short(at),
-        Reply::NoRoom(at) => Reply::NoRoom(at),
-    }
+    let _ = check(f, file)?;
+    answer_lines(f, file, n, room)
 }
 
 // Puts line `i` in front of the chain of output line `n`, and answers which line was there; `end` where there is no such chain.
@@ -386,10 +362,10 @@ fn answer_chains(
         × (next.new ≡ nexts_after (roomed_chains (length first.old) (wents_in (form_shape f) file.now) (length next.old)) next.old) }
 {
     if next.len() < m {
-        return Reply::NoRoom(m);
+        return Err(Refusal::NoRoom(m));
     }
     link_all(f, file, m, first, next);
-    Reply::Fine(m)
+    Ok(m)
 }
 
 // Writes the lines that are in each output line of a file, as chains, in one walk, and answers how many lines there are: into `first` for each output line, as
@@ -399,17 +375,8 @@ pub fn lines_of_all(f: origins::Form, file: &[u8], first: &mut [usize], next: &m
     ensures memory { (first.new ≡ firsts_after (chains_for (form_shape f) file.now (length first.old) (length next.old)) first.old)
         × (next.new ≡ nexts_after (chains_for (form_shape f) file.now (length first.old) (length next.old)) next.old) }
 {
-    match check(f, file) {
-        Reply::Fine(m) => answer_chains(f, file, m, first, next),
-        Reply::Cut(bad) => Reply::Cut(bad),
-        Reply::WrongMark(bad) => Reply::WrongMark(bad),
-        Reply::OutOfOrder(bad) => Reply::OutOfOrder(bad),
-        Reply::UnknownFate(bad) => Reply::UnknownFate(bad),
-        Reply::Disagree(bad) => Reply::Disagree(bad),
-        Reply::Unfit(bad) => Reply::NoRoom(bad),
-        Reply::Short(bad) => Reply::Short(bad),
-        Reply::NoRoom(bad) => Reply::NoRoom(bad),
-    }
+    let lines = check(f, file)?;
+    answer_chains(f, file, lines, first, next)
 }
 
 // Whether the record of line `i` can be written in a form.
@@ -461,15 +428,15 @@ fn answer_turn(f: origins::Form, g: origins::Form, file: &[u8], m: usize, out: &
 {
     let u = unfit_at(f, g, file, m);
     if u < m {
-        return Reply::Unfit(u);
+        return Err(Refusal::Unfit(u));
     }
     let z = origins::size_of(g);
     let n = z * m;
     if out.len() < n {
-        return Reply::Short(n);
+        return Err(Refusal::Short(n));
     }
     let e = put_file(f, g, file, out);
-    Reply::Fine(e)
+    Ok(e)
 }
 
 // Writes the records of a file of one form in another, and answers how many bytes they are.
@@ -477,15 +444,6 @@ pub fn turn(f: origins::Form, g: origins::Form, file: &[u8], out: &mut [u8]) -> 
     ensures answer { result ≡ turned_reply (turn (form_shape f) (form_shape g) file.now (length out.old)) }
     ensures memory { out.new ≡ turned_after (turn (form_shape f) (form_shape g) file.now (length out.old)) out.old }
 {
-    match check(f, file) {
-        Reply::Fine(m) => answer_turn(f, g, file, m, out),
-        Reply::Cut(i) => Reply::Cut(i),
-        Reply::WrongMark(i) => Reply::WrongMark(i),
-        Reply::OutOfOrder(i) => Reply::OutOfOrder(i),
-        Reply::UnknownFate(i) => Reply::UnknownFate(i),
-        Reply::Disagree(i) => Reply::Disagree(i),
-        Reply::Unfit(i) => Reply::Unfit(i),
-        Reply::Short(i) => Reply::Short(i),
-        Reply::NoRoom(i) => Reply::NoRoom(i),
-    }
+    let records = check(f, file)?;
+    answer_turn(f, g, file, records, out)
 }

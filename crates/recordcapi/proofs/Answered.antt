@@ -9,8 +9,7 @@ use Rattle.origins.specs.declared.Form.{Form}
 use Rattle.origins.specs.Form.{form_shape, fate_byte, out_line}
 use Rattle.origins.specs.Read.{read_file}
 use Rattle.origins.specs.Answers.{Lines, lines_for, Turned, turn}
-use Rattle.reader.specs.declared.Reply.{Reply}
-use Rattle.reader.specs.Replies.{reply_number, reply_place, reply_count, form_in, check_reply, lines_reply, lines_after, turned_reply, turned_after, wents_in}
+use Rattle.reader.specs.Replies.{Reply, reply_number, reply_place, reply_count, form_in, check_reply, lines_reply, lines_after, turned_reply, turned_after, wents_in}
 use Rattle.recordcapi.specs.Called.{shown, checked_file, record_in, lines_asked, turned_to}
 
 -- the number, the count and the place of the answer r, which is x

@@ -6,8 +6,7 @@ use Rattle.origins.specs.declared.Form.{Form}
 use Rattle.origins.specs.Form.{Shape, form_shape}
 use Rattle.origins.specs.Read.{read_file}
 use Rattle.origins.specs.Answers.{Lines, lines_for, Turned, turn}
-use Rattle.reader.specs.declared.Reply.{Reply}
-use Rattle.reader.specs.Replies.{form_in, check_reply, wents_in}
+use Rattle.reader.specs.Replies.{Reply, form_in, check_reply, wents_in}
 
 abbrev pub shown : List ℕ → Shape
 shown s = form_shape (form_in s)
