@@ -94,15 +94,17 @@ fn report(
 
 // A program of a name that tidies the listing that its arguments name, by what `tidy` does to a text, with records in a form: over room for a text, for what it becomes
 // and for the records. Of a text that did not come whole nothing is written. `forms` says whether the program has the option for a form.
-pub fn run(
+pub fn run<Tidy: FnOnce(Task, Form, &[u8], &mut [u8], &mut [u8]) -> Answer>(
     rt: &HostRuntime,
     program: &[u8],
     forms: bool,
     room: &mut [u8],
     out: &mut [u8],
     orig: &mut [u8],
-    tidy: impl FnOnce(Task, Form, &[u8], &mut [u8], &mut [u8]) -> Answer,
-) {
+    tidy: Tidy,
+)
+    requires { Tidy.IsAlwaysCallable tidy }
+{
     let asked = match asked::ask(rt, forms) {
         Ok(asked) => asked,
         Err(wrong) => {
