@@ -88,10 +88,23 @@ pub fn large_buffer() -> [u8; 65536]
     room()
 }
 
+// Writes all of a text, or stops at the first write that takes nothing or fails, when some of it may be written. Of an empty text it writes nothing.
+fn write_all<W: Write>(to: &mut W, text: &[u8]) -> Result<(), Failure> {
+    let mut done = 0;
+    // Kept: the place moves by how many bytes a write takes, and one that is interrupted is told.
+    while done < text.len() {
+        let n = to.write(&text[done..])?;
+        if n == 0 {
+            return Err(Failure::System(DEVICE));
+        }
+        done += n;
+    }
+    Ok(())
+}
+
 // Writes all of a text to standard output, or stops where it takes no more, when some of it may be written.
 pub fn write(rt: &HostRuntime, text: &[u8]) -> Result<(), Failure> {
-    rt.stdout().write_all(text)?;
-    Ok(())
+    write_all(&mut rt.stdout(), text)
 }
 
 // Writes a number to standard output, in digits.
@@ -154,7 +167,7 @@ pub fn write_refused(rt: &HostRuntime, number: u8, place: usize) -> Result<(), F
 
 // Writes a text to standard error, as far as it takes it.
 pub fn say(rt: &HostRuntime, text: &[u8]) {
-    let _ = rt.stderr().write_all(text);
+    let _ = write_all(&mut rt.stderr(), text);
 }
 
 // Writes a number to standard error, in digits.
@@ -234,6 +247,6 @@ fn kept(file: &File) -> Result<(), Failure> {
 // Writes a text to the file of a name, which is emptied first, or made where it is missing.
 pub fn write_file(rt: &HostRuntime, name: &[u8], text: &[u8]) -> Result<(), Failure> {
     let mut file = File::create(rt, str::from_utf8(name)?)?;
-    file.write_all(text)?;
+    write_all(&mut file, text)?;
     kept(&file)
 }
