@@ -56,8 +56,14 @@ unfolding is classes
 class-opens = by 3 (λ (b : ℕ). opens_pattern b) tt
 
 -- the bytes that need no table: the digits and the small letters belong to a name ..
+pub name-digit : (b : ℕ) → 48 ≤ b → b ≤ 57 → is_name b ≡ true
+name-digit b l h = simp (is-in 48 57 b l h)
+
 pub name-small : (b : ℕ) → 97 ≤ b → b ≤ 122 → is_name b ≡ true
 name-small b l h = simp (is-above 48 57 b (omega arith), is-above 65 90 b (omega arith), is-in 97 122 b l h)
+
+pub name-capital : (b : ℕ) → 65 ≤ b → b ≤ 90 → is_name b ≡ true
+name-capital b l h = simp (is-above 48 57 b (omega arith), is-in 65 90 b l h)
 
 -- .. and what is outside of all ranges to none, nor is it a quote
 pub no_name : (b : ℕ) → (48 ≤ b → 57 < b) → (65 ≤ b → 90 < b) → (97 ≤ b → 122 < b) → (b ≡ 95 → ⊥) → (b ≡ 36 → ⊥) → is_name b ≡ false
