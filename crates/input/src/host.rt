@@ -1,5 +1,5 @@
 // The program's arguments, its standard streams, and files by name, over the system.
-ghost use Rattle.std.specs.Prelude.{◌≡◌, ◌≤◌, length};
+ghost use Rattle.std.specs.Prelude.{◌≡◌, ◌≤◌, IfOk, length};
 
 use std::env::{Env, FillError};
 use std::fmt::{Display, Formatter, InlineText};
@@ -17,8 +17,10 @@ pub enum Failure {
     System(i32),
 }
 
-// The system's numbers: for a device that failed, an argument that is missing, a file that cannot be asked to keep what was written,
-// an argument that is too long, and a name that is not UTF-8.
+// The system's numbers: for a call that was interrupted, a device that failed, an argument that is missing, a file that cannot be asked to keep what was
+// written, an argument that is too long, and a name that is not UTF-8.
+pub const INTERRUPTED: i32 = 4;
+
 const DEVICE: i32 = 5;
 
 const MISSING: i32 = 22;
@@ -200,13 +202,17 @@ pub fn arg_count(rt: &HostRuntime) -> usize {
 }
 
 // Argument i, which is put at the start of a room.
-pub fn take_arg<'a>(rt: &HostRuntime, i: usize, room: &'a mut [u8]) -> Result<&'a [u8], Failure> {
+pub fn take_arg<'a>(rt: &HostRuntime, i: usize, room: &'a mut [u8]) -> Result<&'a [u8], Failure>
+    ensures { IfOk result (λ word. length word.now ≤ length room.old) }
+{
     let n = rt.arg(i, room)?;
     Ok(&room[..n])
 }
 
 // The same, or nothing where it is missing or longer than the room.
-pub fn arg<'a>(rt: &HostRuntime, i: usize, room: &'a mut [u8]) -> &'a [u8] {
+pub fn arg<'a>(rt: &HostRuntime, i: usize, room: &'a mut [u8]) -> &'a [u8]
+    ensures { length result.now ≤ length room.old }
+{
     take_arg(rt, i, room).unwrap_or(b"")
 }
 

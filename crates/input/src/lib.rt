@@ -10,9 +10,6 @@ ghost use Rattle.std.specs.Prelude.{◌≤◌, length};
 use host::Failure;
 use std::io::{ErrorKind, Read};
 
-// The system's number for a call that was interrupted.
-const INTERRUPTED: i32 = 4;
-
 // Reads until the text ends, fills its room, or a read fails. A read of no bytes is the end, so that one Ctrl-D ends what is typed; one that
 // is interrupted is made again. Every other turn brings a byte at least. What has to be bounded are the interrupted ones: a loop that is
 // proved has to end, so the turns are counted, up to a number that no run uses up.
@@ -29,7 +26,7 @@ pub fn read_input<'a, R: Read>(from: &mut R, room: &'a mut [u8]) -> Result<&'a [
             Err(e) => return Err(e.into()),
         }
     }
-    Err(Failure::System(INTERRUPTED))
+    Err(Failure::System(host::INTERRUPTED))
 }
 
 // What standard input is called.

@@ -39,5 +39,5 @@ fn pass_over<R: Read>(from: &mut R, n: usize) -> bool {
 // Reads a text of `n` bytes, and passes over what does not fit: whether all of it came.
 pub fn read_bytes<R: Read>(from: &mut R, n: usize, text: &mut [u8]) -> bool {
     let here = n.min(text.len());
-    read_full(from, &mut text[..here]) == here && pass_over(from, n - here)
+    read_full(from, &mut text[..here]) == here && (here == n || pass_over(from, n - here))
 }
