@@ -91,13 +91,5 @@ fn answer(task: Task, form: Form, text: &[u8], out: &mut [u8], orig: &mut [u8]) 
 }
 
 fn main(rt: HostRuntime) {
-    tidying::run(
-        &rt,
-        b"optlarge",
-        true,
-        &mut host::room::<u8, TEXT>(),
-        &mut host::room::<u8, WORK>(),
-        &mut host::room::<u8, RECORDS>(),
-        answer,
-    );
+    tidying::run::<TEXT, WORK, RECORDS, _>(&rt, b"optlarge", true, answer);
 }

@@ -15,13 +15,7 @@ const RESULT: usize = 32769;
 const RECORDS: usize = 7168;
 
 fn main(rt: HostRuntime) {
-    tidying::run(
-        &rt,
-        b"optlines",
-        false,
-        &mut host::room::<u8, TEXT>(),
-        &mut host::room::<u8, RESULT>(),
-        &mut host::room::<u8, RECORDS>(),
-        |task, _, text, out, orig| tidying::answer_small(task, text, out, orig),
-    );
+    tidying::run::<TEXT, RESULT, RECORDS, _>(&rt, b"optlines", false, |task, _, text, out, orig| {
+        tidying::answer_small(task, text, out, orig)
+    });
 }

@@ -4,7 +4,9 @@
 pub mod asked;
 pub mod tell;
 
-use asked::Task;
+ghost use Rattle.std.specs.Prelude.{◌<◌, ◌^◌};
+
+use asked::{Asked, Task};
 use input::host;
 use input::host::Failure;
 use limits::Answer;
@@ -57,9 +59,8 @@ fn put_records(rt: &HostRuntime, program: &[u8], at: usize, records: &[u8]) {
     }
 }
 
-// How many bytes the records of a text are, in a form: one that is taken has at most 100,000 lines.
-fn records_size(form: Form, text: &[u8]) -> usize {
-    let n = lines::count_lines(text);
+// How many bytes the records of `n` lines are, in a form: a text that is taken has at most 100,000.
+pub fn records_size(form: Form, n: usize) -> usize {
     if n > limits::LARGE_LINES {
         return 0;
     }
@@ -70,15 +71,15 @@ fn records_size(form: Form, text: &[u8]) -> usize {
 }
 
 // Says what came of a text. A refusal is told on standard error too: a tidy text may read like one, and a person wants to know more.
-fn report(
+pub fn report(
     rt: &HostRuntime,
     program: &[u8],
-    records: Option<usize>,
+    task: Task,
     answer: Answer,
     text: &[u8],
     name: &[u8],
     out: &[u8],
-    orig: &[u8],
+    records: &[u8],
 ) {
     if let Err(why) = write_answer(rt, answer, out) {
         host::say_failed(rt, program, b"write", b"standard output", why);
@@ -87,45 +88,69 @@ fn report(
     let number = limits::number_of(answer);
     if number != 0 {
         tell::explain(rt, program, number, limits::place_of(answer), text, name);
-    } else if let Some(at) = records {
-        put_records(rt, program, at, orig);
+    } else if let Some(at) = task.records {
+        put_records(rt, program, at, records);
     }
 }
 
-// A program of a name that tidies the listing that its arguments name, by what `tidy` does to a text, with records in a form: over room for a text, for what it becomes
-// and for the records. Of a text that did not come whole nothing is written. `forms` says whether the program has the option for a form.
-pub fn run<Tidy: FnOnce(Task, Form, &[u8], &mut [u8], &mut [u8]) -> Answer>(
-    rt: &HostRuntime,
-    program: &[u8],
-    forms: bool,
-    room: &mut [u8],
-    out: &mut [u8],
-    orig: &mut [u8],
-    tidy: Tidy,
-)
-    requires { Tidy.IsAlwaysCallable tidy }
+// Tidies a text that is there whole, and says what came of it, over room for what it becomes and for the records.
+#[inline(never)]
+fn tidy_text<
+    const RESULT: usize,
+    const RECORDS: usize,
+    Tidy: FnOnce(Task, Form, &[u8], &mut [u8], &mut [u8]) -> Answer,
+>(rt: &HostRuntime, program: &[u8], task: Task, text: &[u8], name: &[u8], tidy: Tidy)
+    requires callable { Tidy.IsAlwaysCallable tidy }
+    requires sizes { (RESULT < 2 ^ 63) × (RECORDS < 2 ^ 63) }
 {
-    let asked = match asked::ask(rt, forms) {
-        Ok(asked) => asked,
-        Err(wrong) => {
-            tell::wrong(rt, program, wrong);
-            return;
-        }
-    };
+    let mut out = host::room::<u8, RESULT>();
+    let mut orig = host::room::<u8, RECORDS>();
+    let form = task.form_for(text);
+    let answer = tidy(task, form, text, &mut out, &mut orig);
+    let size = records_size(form, lines::count_lines(text));
+    report(
+        rt,
+        program,
+        task,
+        answer,
+        text,
+        name,
+        &out,
+        lines::cut(&orig, 0, size),
+    );
+}
+
+// Reads the listing that is asked for, over room for a text, and tidies it. Of a text that did not come whole nothing is written.
+#[inline(never)]
+fn tidy_named<
+    const TEXT: usize,
+    const RESULT: usize,
+    const RECORDS: usize,
+    Tidy: FnOnce(Task, Form, &[u8], &mut [u8], &mut [u8]) -> Answer,
+>(rt: &HostRuntime, program: &[u8], asked: Asked, tidy: Tidy)
+    requires callable { Tidy.IsAlwaysCallable tidy }
+    requires sizes { (TEXT < 2 ^ 63) × ((RESULT < 2 ^ 63) × (RECORDS < 2 ^ 63)) }
+{
     let mut name = host::buffer();
-    if let Some((name, text)) = input::take_listing(rt, program, asked.at, &mut name, room) {
-        let form = asked.task.form_for(text);
-        let answer = tidy(asked.task, form, text, out, orig);
-        let records = lines::cut(orig, 0, records_size(form, text));
-        report(
-            rt,
-            program,
-            asked.task.records,
-            answer,
-            text,
-            name,
-            out,
-            records,
-        );
+    let mut room = host::room::<u8, TEXT>();
+    if let Some((name, text)) = input::take_listing(rt, program, asked.at, &mut name, &mut room) {
+        tidy_text::<RESULT, RECORDS, Tidy>(rt, program, asked.task, text, name, tidy);
+    }
+}
+
+// A program of a name that tidies the listing that its arguments name, by what `tidy` does to a text, with records in a form. `forms` says whether the program has the
+// option for a form. Each room is in the frame of a function that is called where the room is needed: what is wrong with the arguments is told over little of the stack.
+pub fn run<
+    const TEXT: usize,
+    const RESULT: usize,
+    const RECORDS: usize,
+    Tidy: FnOnce(Task, Form, &[u8], &mut [u8], &mut [u8]) -> Answer,
+>(rt: &HostRuntime, program: &[u8], forms: bool, tidy: Tidy)
+    requires callable { Tidy.IsAlwaysCallable tidy }
+    requires sizes { (TEXT < 2 ^ 63) × ((RESULT < 2 ^ 63) × (RECORDS < 2 ^ 63)) }
+{
+    match asked::ask(rt, forms) {
+        Ok(asked) => tidy_named::<TEXT, RESULT, RECORDS, Tidy>(rt, program, asked, tidy),
+        Err(wrong) => tell::wrong(rt, program, wrong),
     }
 }

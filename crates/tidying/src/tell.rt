@@ -5,13 +5,13 @@ use input::host;
 use input::host::{say, say_number};
 
 // Says a line of a program's own.
-fn say_line(rt: &HostRuntime, program: &[u8], text: &[u8]) {
+pub fn say_line(rt: &HostRuntime, program: &[u8], text: &[u8]) {
     say(rt, program);
     say(rt, text);
 }
 
 // Says a text, an argument and the end of the line.
-fn say_word(rt: &HostRuntime, program: &[u8], text: &[u8], at: usize) {
+pub fn say_word(rt: &HostRuntime, program: &[u8], text: &[u8], at: usize) {
     say_line(rt, program, text);
     say(rt, host::arg(rt, at, &mut host::buffer()));
     say(rt, b"\n");
