@@ -44,18 +44,30 @@ struct Memory {
 }
 
 impl Memory {
-    // Filled buffers.
+    // Buffers that hold nothing yet.
     fn new() -> Memory {
         Memory {
-            a: [lent::BYTE; BYTES + MORE],
-            b: [lent::BYTE; BYTES + MORE],
-            c: [lent::BYTE; BYTES + MORE],
-            d: [lent::BYTE; BYTES + MORE],
-            e: [lent::BYTE; BYTES + MORE],
-            u: [lent::BLOCK; BLOCKS + MORE],
-            out: [lent::BYTE; BYTES + MORE],
-            records: [lent::BYTE; RECORDS + MORE],
+            a: [0; BYTES + MORE],
+            b: [0; BYTES + MORE],
+            c: [0; BYTES + MORE],
+            d: [0; BYTES + MORE],
+            e: [0; BYTES + MORE],
+            u: [0; BLOCKS + MORE],
+            out: [0; BYTES + MORE],
+            records: [0; RECORDS + MORE],
         }
+    }
+
+    // Fills all buffers.
+    fn fill(&mut self) {
+        self.a.fill(lent::BYTE);
+        self.b.fill(lent::BYTE);
+        self.c.fill(lent::BYTE);
+        self.d.fill(lent::BYTE);
+        self.e.fill(lent::BYTE);
+        self.u.fill(lent::BLOCK);
+        self.out.fill(lent::BYTE);
+        self.records.fill(lent::BYTE);
     }
 
     // Runs the whole or one pass, and lends as much of each buffer as the request says.
@@ -88,8 +100,8 @@ impl Memory {
 }
 
 // Answers a request over buffers that are filled anew, and returns whether the answer went out.
-fn answer(rt: &HostRuntime, q: Request, text: &[u8]) -> bool {
-    let mut memory = Memory::new();
+fn answer(rt: &HostRuntime, memory: &mut Memory, q: Request, text: &[u8]) -> bool {
+    memory.fill();
     let got = memory.run(q, text);
     let number = limits::number_of(got);
     let n = limits::length_of(got);
@@ -102,19 +114,20 @@ fn answer(rt: &HostRuntime, q: Request, text: &[u8]) -> bool {
 }
 
 // Reads a request and answers it, and returns whether to go on.
-fn serve_one(rt: &HostRuntime) -> bool {
+fn serve_one(rt: &HostRuntime, memory: &mut Memory) -> bool {
     let mut text = [0; TEXT];
     let mut from = rt.stdin();
     match wire::read_request(&mut from, &mut text) {
-        Some(q) => answer(rt, q, lines::cut(&text, 0, q.length)),
+        Some(q) => answer(rt, memory, q, lines::cut(&text, 0, q.length)),
         None => false,
     }
 }
 
 // Answers until the input ends. No run uses up the turns.
 fn main(rt: HostRuntime) {
+    let mut memory = Memory::new();
     for _ in 0..u64::MAX {
-        if !serve_one(&rt) {
+        if !serve_one(&rt, &mut memory) {
             return;
         }
     }
