@@ -1,6 +1,8 @@
--- The lines that a chain has left. Assumes nothing.
+-- The lines that a chain has left, and sizes. Assumes nothing.
 use Rattle.std.proofs.Common.{◌≡◌, ℕ, suc, zero, ◌-◌, ◌<◌, ◌≤◌, Bool, true, false, cond, List, [], ◌∷◌, length, get_or, arith, sym, ap, ◌∙◌}
-use lib.Dec.{ltb}
+use Prim.Native.Nat.{◌*◌}
+use borrow.Author.Tests.{le-leb, lt-leb}
+use lib.Dec.{ltb, leb}
 use Rattle.reader.specs.Chains.{along}
 use Rattle.reader.proofs.ChainLaws.{along-none, along-zero, along-some}
 
@@ -24,3 +26,10 @@ module _ (end : ℕ) (ns : List ℕ) where
   one_more k i j g h e =
       let q : k ≡ suc (k - 1) = omega (arith, g) in
       ap (λ (n : ℕ). along end ns n i) q ∙ along-some end (k - 1) i ns h ∙ ap (λ (m : ℕ). i ∷ along end ns (k - 1) m) (sym e)
+
+-- the bytes of the records of n lines
+pub size-within : (n : ℕ) → n ≤ 1024 → n * 7 ≡ cond (leb n 1024) (n * 7) 0
+size-within n h = rw (le-leb n 1024 h)
+
+pub size-beyond : (n : ℕ) → 1024 < n → 0 ≡ cond (leb n 1024) (n * 7) 0
+size-beyond n h = rw (lt-leb n 1024 h)

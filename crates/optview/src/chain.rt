@@ -2,6 +2,7 @@
 // lines, `end`, ends a chain.
 ghost use Rattle.std.specs.Prelude.{◌≡◌, length, get_or};
 ghost use Rattle.std.specs.Iterator.{YieldsFirst, item_count};
+ghost use Rattle.reader.specs.Chains.{along};
 ghost use Rattle.optview.specs.Inner.Chained.{lines_left};
 
 // The number at a place; `other` past the end.
@@ -21,7 +22,9 @@ pub struct Chain<'a> {
 }
 
 // The chain from line `at` on.
-pub fn from(next: &[usize], at: usize, end: usize) -> Chain<'_> {
+pub fn from(next: &[usize], at: usize, end: usize) -> Chain<'_>
+    ensures { lines_left result ≡ along end next.now end at }
+{
     Chain {
         next,
         at,

@@ -15,6 +15,8 @@ mod stages;
 mod tell;
 mod why;
 
+ghost use Rattle.std.specs.Prelude.{◌≡◌, cond, ◌*◌, leb};
+
 use asked::Options;
 use input::host;
 use input::host::Output;
@@ -34,6 +36,13 @@ const TIDY: usize = 32769;
 // How many bytes the record of a line has.
 const RECORD: usize = 7;
 
+// How many bytes the records of `n` lines are: there are at most 1,024 lines.
+fn size_of(n: usize) -> usize
+    ensures { result ≡ cond (leb n 1024) (n * 7) 0 }
+{
+    if n <= LINES { n * RECORD } else { 0 }
+}
+
 // Shows a listing that is there whole.
 fn show(rt: &HostRuntime, options: Options, text: &[u8], name: &[u8]) {
     let mut tidy = [0; TIDY];
@@ -49,11 +58,11 @@ fn show(rt: &HostRuntime, options: Options, text: &[u8], name: &[u8]) {
         );
         return;
     };
-    let count = lines::count_lines(text).min(LINES);
+    let count = lines::count_lines(text);
     let listing = Listing {
         text,
         tidy: lines::cut(&tidy, 0, length),
-        records: lines::cut(&records, 0, RECORD * count),
+        records: lines::cut(&records, 0, size_of(count)),
         noted: &noted,
         first: &[],
         next: &[],
