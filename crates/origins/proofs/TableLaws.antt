@@ -10,7 +10,7 @@ use lib.Dec.{eqb}
 use Rattle.std.proofs.Common.{◌==◌}
 use Rattle.std.specs.Prelude.{count_by}
 use Rattle.std.proofs.lemmas.List.Recursion.{is_count_by}
-use lib.ListN.{length, take, drop, get_or, set, length-append, length-take, length-drop}
+use lib.ListN.{length, take, drop, get_or, set, length-append, length-take, length-drop, drop_of_length-le}
 use lib.Seq.{drop-cons, take-length, drop-length, drop-append-add, get_or-append-add}
 use Rattle.lines.specs.Inner.Out.{Wrote}
 use Rattle.lines.proofs.OutLaws.{wrote-byte, wrote_as}
@@ -47,6 +47,26 @@ land-down below (suc d) r x h p q = let e : suc d - 1 ≡ d = omega arith in q �
 pub standing_is_count : (m : List ℕ) → standing m ≡ count_by (λ x. x == 0) m
 unfolding standing
 standing_is_count m = is_count_by standing (λ x. x == 0) refl (λ x xs. grind arith) m
+
+pub standing_here : (m : List ℕ) (i : ℕ) → i < length m → get_or m i 0 ≡ 0 → standing (drop i m) ≡ suc (standing (drop (i + 1) m))
+unfolding standing
+standing_here m i h q =
+    let e : suc i ≡ i + 1 = omega arith in
+    ap standing (drop-cons m i 0 h)
+    ∙ ap (λ (b : Bool). cond b (suc (standing (drop (suc i) m))) (standing (drop (suc i) m))) (eq-eqb (get_or m i 0) 0 q)
+    ∙ ap (λ (n : ℕ). suc (standing (drop n m))) e
+
+pub standing_on : (m : List ℕ) (i : ℕ) → i < length m → (get_or m i 0 ≡ 0 → ⊥) → standing (drop i m) ≡ standing (drop (i + 1) m)
+unfolding standing
+standing_on m i h q =
+    let e : suc i ≡ i + 1 = omega arith in
+    ap standing (drop-cons m i 0 h)
+    ∙ ap (λ (b : Bool). cond b (suc (standing (drop (suc i) m))) (standing (drop (suc i) m))) (ne_eqb (get_or m i 0) 0 q)
+    ∙ ap (λ (n : ℕ). standing (drop n m)) e
+
+pub standing-end : (m : List ℕ) (i : ℕ) → length m ≤ i → standing (drop i m) ≡ 0
+unfolding standing
+standing-end m i h = ap standing (drop_of_length-le m h)
 
 -- ---- landing, from the last line to the first
 

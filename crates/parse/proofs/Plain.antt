@@ -1,7 +1,7 @@
 -- A name that is plainly a register, and a line that is plainly a store. Assumes nothing.
 use Prim.Native.Nat.{ℕ, zero, suc, ◌+◌, ◌-◌, ◌^◌, ◌≤◌, ◌<◌}
 use mathlib.Core.Path.{◌≡◌, refl, sym, ap, ◌∙◌}
-use mathlib.Core.Bool.{Bool, true, false, cond, not, ◌||◌}
+use mathlib.Core.Bool.{Bool, true, false, cond, not, ◌&&◌, ◌||◌}
 use mathlib.Core.List.{List, [], ◌∷◌}
 use native.Mathlib.Nat.{pow-le-pow_right}
 use native.Mathlib.Omega.{arith}
@@ -20,7 +20,7 @@ use Rattle.names.specs.Names.{is_digit, all_digits, value, reg_by, reg_of, is_re
 use Rattle.std.specs.declared.option.Option.{Option}
 use Rattle.names.proofs.Digits.{number-is}
 use Rattle.names.proofs.Decimal.{value-lt}
-use Rattle.parse.specs.Inner.Parse.{digits_len, plain_byte}
+use Rattle.parse.specs.Inner.Parse.{digits_len, short_reg, plain_byte}
 
 -- ---- digits at the front
 
@@ -235,3 +235,42 @@ pub plain-piece : (p : List ℕ) (a e : ℕ) → a ≡ cond (eqb (get_or p 0 0) 
 plain-piece p a e h r q l lo hi =
     let k = plain_at p 0 a e h r q lo hi (λ z. absurd (omega arith)) in
     ap (λ (x : List ℕ). is_reg (reg_of (trim_of x))) (sym (take_all (e - 0) p (omega arith))) ∙ k.1
+
+-- one digit, and a comma or the end behind it
+pub short-room : (s : List ℕ) (a : ℕ) → short_reg a s ≡ true → a + 2 ≤ length s
+short-room s a v = leb-true (a + 2) (length s) (and_left (leb (a + 2) (length s)) _ v)
+
+-- its tests, one by one
+pub short-is : (s : List ℕ) (a : ℕ) (b : Bool) → a + 2 ≤ length s → eqb (get_or s a 0) 114 && is_digit (get_or s (a + 1) 0) ≡ b → short_reg a s ≡ b && (eqb (a + 2) (length s) || eqb (get_or s (a + 2) 0) 44)
+short-is s a b h e =
+    let behind : Bool = eqb (a + 2) (length s) || eqb (get_or s (a + 2) 0) 44 in
+    ap (λ (x : Bool). x && ((eqb (get_or s a 0) 114 && is_digit (get_or s (a + 1) 0)) && behind)) (le-leb (a + 2) (length s) h) ∙ ap (λ (x : Bool). x && behind) e
+
+pub short-at : (s : List ℕ) (i a : ℕ) → a ≡ cond (eqb (get_or s i 0) 32) (i + 1) i → short_reg a s ≡ true → (a + 2 ≡ i + up_to 44 (drop i s)) × (is_reg (reg_of (trim_of (part i (a + 2) s))) ≡ true)
+short-at s i a p v = go (eqb (a + 2) (length s)) refl (and_right (eqb (get_or s a 0) 114 && is_digit (get_or s (a + 1) 0)) _ x)
+  where
+    h : a + 2 ≤ length s
+    h = short-room s a v
+
+    x : (eqb (get_or s a 0) 114 && is_digit (get_or s (a + 1) 0)) && (eqb (a + 2) (length s) || eqb (get_or s (a + 2) 0) 44) ≡ true
+    x = and_right (leb (a + 2) (length s)) _ v
+
+    y : eqb (get_or s a 0) 114 && is_digit (get_or s (a + 1) 0) ≡ true
+    y = and_left (eqb (get_or s a 0) 114 && is_digit (get_or s (a + 1) 0)) _ x
+
+    r : get_or s a 0 ≡ 114
+    r = eqb-true (get_or s a 0) 114 (and_left (eqb (get_or s a 0) 114) _ y)
+
+    -- no digit stands behind it
+    by : digits_len (drop (a + 1 + 1) s) ≡ 0 → (a + 2 < length s → get_or s (a + 2) 0 ≡ 44) → (a + 2 ≡ i + up_to 44 (drop i s)) × (is_reg (reg_of (trim_of (part i (a + 2) s))) ≡ true)
+    by m c =
+        let q : a + 2 ≡ a + 1 + digits_len (drop (a + 1) s) = omega (arith, digits-on s (a + 1) (omega (arith, h)) (and_right (eqb (get_or s a 0) 114) _ y)) in
+        plain_at s i a (a + 2) p r q (omega arith) (omega arith) c
+
+    go : (t : Bool) → eqb (a + 2) (length s) ≡ t → t || eqb (get_or s (a + 2) 0) 44 ≡ true → (a + 2 ≡ i + up_to 44 (drop i s)) × (is_reg (reg_of (trim_of (part i (a + 2) s))) ≡ true)
+    go true e w = let z : a + 2 ≡ length s = eqb-true (a + 2) (length s) e in by (digits-end s (a + 1 + 1) (omega arith)) (λ k. absurd (omega arith))
+    go false e w =
+        let c : get_or s (a + 2) 0 ≡ 44 = eqb-true (get_or s (a + 2) 0) 44 w in
+        let k : a + 2 < length s = inside s (a + 2) (λ n. absurd (omega arith)) in
+        let z : a + 1 + 1 ≡ a + 2 = omega arith in
+        by (digits-here s (a + 1 + 1) (omega arith) (ap (λ (n : ℕ). is_digit (get_or s n 0)) z ∙ ap (λ (b : ℕ). is_digit b) c)) (λ _. c)

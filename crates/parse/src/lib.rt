@@ -2,12 +2,12 @@
 #![tactic(auto)]
 
 ghost use Rattle.std.specs.Prelude.{◌≡◌, ◌<◌, ◌≤◌, ◌+◌, ◌-◌, ◌^◌, true, cond, not, ◌&&◌, eqb, length, take, drop, get_or};
-ghost use Rattle.lines.specs.Lf.{part, parts_of};
+ghost use Rattle.lines.specs.Lf.{part, up_to, parts_of};
 ghost use Rattle.text.specs.Trim.{from_of, trim_of};
 ghost use Rattle.names.specs.Names.{reg_of, is_reg};
 ghost use Rattle.std.specs.declared.option.Option.TheVariants.{None};
 ghost use Rattle.parse.specs.Parse.{all_regs, is_decl, store_in, split_store, parse_of, text_of};
-ghost use Rattle.parse.specs.Inner.Parse.{digits_len, NameTo, plain_byte, plain_value};
+ghost use Rattle.parse.specs.Inner.Parse.{digits_len, short_reg, NameTo, plain_byte, plain_value};
 
 // A store: its register, and the place of its value in the line.
 #[derive(Clone, Copy)]
@@ -53,33 +53,78 @@ fn after_space(s: &[u8], i: usize) -> usize
     i
 }
 
-// Whether a piece is plainly a register, which most are: at most one space, `r` and at most nine digits.
-fn plain_reg(p: &[u8]) -> bool
-    ensures { result ≡ true → is_reg (reg_of (trim_of p.now)) ≡ true }
+// Whether `r` and a digit stand at a place, and then a comma or the end.
+fn short_reg(s: &[u8], a: usize) -> bool
+    ensures { result ≡ short_reg a s.now }
 {
-    let a = after_space(p, 0);
-    if lines::byte_at(p, a) != b'r' {
+    let n = s.len();
+    if n < 2 {
         return false;
     }
-    let e = digits_end(p, a + 1);
-    if e < p.len() {
+    if n - 2 < a {
         return false;
     }
-    (2 <= e - a) & (e - a <= 10)
+    let d = s[a + 1];
+    if !((s[a] == b'r') & ((b'0' <= d) & (d <= b'9'))) {
+        return false;
+    }
+    if a + 2 == n {
+        return true;
+    }
+    s[a + 2] == b','
 }
 
-// Whether a piece names a register.
-fn names_reg(p: &[u8]) -> bool
-    ensures { result ≡ is_reg (reg_of (trim_of p.now)) }
+// Where the piece at a place ends, where it is plainly a register: at most one space, `r` and at most nine digits. Else the place.
+fn plain_reg(s: &[u8], i: usize) -> usize
+    ensures { i < result → (result ≡ i + up_to 44 (drop i s.now)) × (is_reg (reg_of (trim_of (part i result s.now))) ≡ true) }
 {
-    plain_reg(p) || is_reg(text::trim(p))
+    let a = after_space(s, i);
+    if short_reg(s, a) {
+        return a + 2;
+    }
+    if lines::byte_at(s, a) != b'r' {
+        return i;
+    }
+    let e = digits_end(s, a + 1);
+    if e - a < 2 {
+        return i;
+    }
+    if 10 < e - a {
+        return i;
+    }
+    if e >= s.len() {
+        return e;
+    }
+    if s[e] != b',' {
+        return i;
+    }
+    e
 }
 
 // Whether each piece between the commas names a register.
 fn all_regs(s: &[u8]) -> bool
     ensures { result ≡ all_regs (parts_of 44 s.now) }
 {
-    lines::pieces(s, b',').all(|p| names_reg(p))
+    let mut i = 0;
+    // Kept: the place moves by what stands there, and no comma is looked for before a piece that is plainly a register: that needs twice the time.
+    loop {
+        let p = plain_reg(s, i);
+        if i < p {
+            if p >= s.len() {
+                return true;
+            }
+            i = p + 1;
+        } else {
+            let e = lines::find_byte(s, i, b',');
+            if !is_reg(text::trim(&s[i..e])) {
+                return false;
+            }
+            if e >= s.len() {
+                return true;
+            }
+            i = e + 1;
+        }
+    }
 }
 
 // Whether a trimmed line is a declaration.

@@ -1,6 +1,10 @@
-use Rattle.std.proofs.Common.{◌≡◌}
+use Prim.Native.Nat.{◌-◌}
+use lib.ListN.{length}
 use Rattle.lexical.proofs.JoinedLaws.{OpenInv}
 use Rattle.lexical.proofs.open_tokens.Given as goal
 
-abbrev pub invariant-loop-token : goal.invariant-loop-token
-invariant-loop-token l = let it = l.token-iterator in (it.text.now ≡ l.s) × OpenInv l.s it.at it.tail
+abbrev pub invariant-loop-i : goal.invariant-loop-i
+invariant-loop-i l = OpenInv l.s l.i l.tail
+
+abbrev pub decreases-loop-i : goal.decreases-loop-i
+decreases-loop-i l = length l.s - l.i

@@ -1,5 +1,5 @@
 -- What inner functions and laws ask beside Parse: no promise of an entry hangs on it. Assumes nothing.
-use Rattle.std.specs.Prelude.{ℕ, suc, ◌+◌, ◌-◌, ◌<◌, ◌≡◌, Bool, true, cond, ◌&&◌, List, [], ◌∷◌, length, take, drop, get_or, eqb, leb, ltb}
+use Rattle.std.specs.Prelude.{ℕ, suc, ◌+◌, ◌-◌, ◌<◌, ◌≡◌, Bool, true, cond, ◌&&◌, ◌||◌, List, [], ◌∷◌, length, take, drop, get_or, eqb, leb, ltb}
 use Prim.Native.Char.{code}
 use Rattle.lines.specs.Lf.{part, up_to}
 use Rattle.text.specs.Trim.{trim_of}
@@ -9,6 +9,10 @@ use Rattle.names.specs.Names.{is_digit, reg_of, is_reg}
 unfoldable pub digits_len : List ℕ → ℕ
 digits_len [] = 0
 digits_len (x ∷ xs) = cond (is_digit x) (suc (digits_len xs)) 0
+
+-- at the place a stand `r` and a digit, and then a comma or the end
+abbrev pub short_reg : ℕ → List ℕ → Bool
+short_reg a l = leb (a + 2) (length l) && ((eqb (get_or l a 0) (code "r") && is_digit (get_or l (a + 1) 0)) && (eqb (a + 2) (length l) || eqb (get_or l (a + 2) 0) (code ",")))
 
 -- a text without its last byte
 abbrev pub without : List ℕ → List ℕ
