@@ -95,7 +95,7 @@ pinned() {
 # Says where the program is older than its sources.
 say_stale() {
     [ -d "$root/crates" ] || return 0
-    [ -z "$(find "$root/crates" -name '*.rt' ! -path '*/out/*' -newer "$program" | head -n 1)" ] ||
+    [ -z "$(find "$root/crates" -name out -prune -o -name '*.rt' -newer "$program" -print | head -n 1)" ] ||
         note "sources are newer than the program: tools/built $name builds it anew"
 }
 
@@ -135,7 +135,7 @@ END
 build_unproved() {
     [ -n "$root" ] || die 'an installed program is not built anew: --unproved is for the repository'
     program=$root/target/unproved/$name
-    [ ! -x "$program" ] || [ -n "$(find "$root/crates" -name '*.rt' ! -path '*/out/*' -newer "$program" | head -n 1)" ] || return 0
+    [ ! -x "$program" ] || [ -n "$(find "$root/crates" -name out -prune -o -name '*.rt' -newer "$program" -print | head -n 1)" ] || return 0
     has_rt
     kit=$("$runner" --kit) || exit 2
     note 'building without a proof, about half a minute'
