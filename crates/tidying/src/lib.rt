@@ -4,7 +4,8 @@
 pub mod asked;
 pub mod tell;
 
-ghost use Rattle.std.specs.Prelude.{◌<◌, ◌^◌};
+ghost use Rattle.std.specs.Prelude.{◌≡◌, ◌<◌, ◌*◌, ◌^◌, cond, leb};
+ghost use Rattle.origins.specs.Form.{form_shape, size_of};
 
 use asked::{Asked, Task};
 use input::host;
@@ -60,7 +61,9 @@ fn put_records(rt: &HostRuntime, program: &[u8], at: usize, records: &[u8]) {
 }
 
 // How many bytes the records of `n` lines are, in a form: a text that is taken has at most 100,000.
-pub fn records_size(form: Form, n: usize) -> usize {
+pub fn records_size(form: Form, n: usize) -> usize
+    ensures { result ≡ cond (leb n 100000) (n * size_of (form_shape form)) 0 }
+{
     if n > limits::LARGE_LINES {
         return 0;
     }
