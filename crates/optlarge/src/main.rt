@@ -91,5 +91,5 @@ fn answer(task: Task, form: Form, text: &[u8], out: &mut [u8], orig: &mut [u8]) 
 }
 
 fn main(rt: HostRuntime) {
-    tidying::run::<TEXT, WORK, RECORDS, _>(&rt, b"optlarge", true, answer);
+    tidying::run_with_rooms::<TEXT, WORK, RECORDS, _>(&rt, b"optlarge", true, answer);
 }

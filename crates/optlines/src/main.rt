@@ -15,7 +15,10 @@ const RESULT: usize = 32769;
 const RECORDS: usize = 7168;
 
 fn main(rt: HostRuntime) {
-    tidying::run::<TEXT, RESULT, RECORDS, _>(&rt, b"optlines", false, |task, _, text, out, orig| {
-        tidying::answer_small(task, text, out, orig)
-    });
+    tidying::run_with_rooms::<TEXT, RESULT, RECORDS, _>(
+        &rt,
+        b"optlines",
+        false,
+        |task, _, text, out, orig| { tidying::answer_small(task, text, out, orig) },
+    );
 }

@@ -96,7 +96,35 @@ pub fn report(
     }
 }
 
-// Tidies a text that is there whole, and says what came of it, over room for what it becomes and for the records.
+// Tidies a text that is there whole over lent room for what it becomes and for the records, and says what came of it.
+fn tidy_over<Tidy: FnOnce(Task, Form, &[u8], &mut [u8], &mut [u8]) -> Answer>(
+    rt: &HostRuntime,
+    program: &[u8],
+    task: Task,
+    text: &[u8],
+    name: &[u8],
+    out: &mut [u8],
+    orig: &mut [u8],
+    tidy: Tidy,
+)
+    requires callable { Tidy.IsAlwaysCallable tidy }
+{
+    let form = task.form_for(text);
+    let answer = tidy(task, form, text, out, orig);
+    let size = records_size(form, lines::count_lines(text));
+    report(
+        rt,
+        program,
+        task,
+        answer,
+        text,
+        name,
+        out,
+        lines::cut(orig, 0, size),
+    );
+}
+
+// The same, over room of its own.
 #[inline(never)]
 fn tidy_text<
     const RESULT: usize,
@@ -108,19 +136,7 @@ fn tidy_text<
 {
     let mut out = host::room::<u8, RESULT>();
     let mut orig = host::room::<u8, RECORDS>();
-    let form = task.form_for(text);
-    let answer = tidy(task, form, text, &mut out, &mut orig);
-    let size = records_size(form, lines::count_lines(text));
-    report(
-        rt,
-        program,
-        task,
-        answer,
-        text,
-        name,
-        &out,
-        lines::cut(&orig, 0, size),
-    );
+    tidy_over::<Tidy>(rt, program, task, text, name, &mut out, &mut orig, tidy);
 }
 
 // Reads the listing that is asked for, over room for a text, and tidies it. Of a text that did not come whole nothing is written.
@@ -141,9 +157,36 @@ fn tidy_named<
     }
 }
 
-// A program of a name that tidies the listing that its arguments name, by what `tidy` does to a text, with records in a form. `forms` says whether the program has the
-// option for a form. Each room is in the frame of a function that is called where the room is needed: what is wrong with the arguments is told over little of the stack.
-pub fn run<
+// A program of a name that tidies the listing that its arguments name, by what `tidy` does to a text, with records in a form: over lent room for a text, for what it
+// becomes and for the records. Of a text that did not come whole nothing is written; one that is longer than its room is cut there, so lend a byte more than `tidy`
+// takes. `forms` says whether the program has the option for a form.
+pub fn run<Tidy: FnOnce(Task, Form, &[u8], &mut [u8], &mut [u8]) -> Answer>(
+    rt: &HostRuntime,
+    program: &[u8],
+    forms: bool,
+    room: &mut [u8],
+    out: &mut [u8],
+    orig: &mut [u8],
+    tidy: Tidy,
+)
+    requires { Tidy.IsAlwaysCallable tidy }
+{
+    let asked = match asked::ask(rt, forms) {
+        Ok(asked) => asked,
+        Err(wrong) => {
+            tell::wrong(rt, program, wrong);
+            return;
+        }
+    };
+    let mut name = host::buffer();
+    if let Some((name, text)) = input::take_listing(rt, program, asked.at, &mut name, room) {
+        tidy_over::<Tidy>(rt, program, asked.task, text, name, out, orig, tidy);
+    }
+}
+
+// The same, over room of its own. Each room is in the frame of a function that is called where the room is needed: what is wrong with the arguments is told over little
+// of the stack.
+pub fn run_with_rooms<
     const TEXT: usize,
     const RESULT: usize,
     const RECORDS: usize,
