@@ -5,8 +5,8 @@
 use input::host;
 use input::host::Failure;
 
-// Room for a text: one byte more than is taken, so that a longer text is seen.
-const TEXT: usize = 16385;
+// Room for a text: more than optlines has, so that a test sees that all of it is used.
+const TEXT: usize = 40000;
 
 // Room for a result: twice the longest text.
 const RESULT: usize = 32769;

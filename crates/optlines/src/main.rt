@@ -19,6 +19,6 @@ fn main(rt: HostRuntime) {
         &rt,
         b"optlines",
         false,
-        |task, _, text, out, orig| { tidying::answer_small(task, text, out, orig) },
+        |task, _, text, out, orig| tidying::answer_small(task, text, out, orig),
     );
 }
